@@ -1,0 +1,65 @@
+-- Spelling undone: the command that stands in these words, if they spell one. Of other words it says nothing.
+use Rattle.std.specs.Prelude.{ℕ, ℤ, List, if◌then◌else◌, ◌==◌, slice_index, drop, Option, Some, None}
+use Rattle.std.specs.Int.{cast_signed, w32}
+use Rattle.svga_cmd.specs.declared.blit.Blit.{Blit}
+use Rattle.svga_cmd.specs.declared.command.Command.{Command}
+use Rattle.svga_cmd.specs.declared.command.Command.TheVariants.{Update, Fence, DefineScreen, DestroyScreen, DefineGmrfb, BlitToScreen, BlitToGmrfb, DefineGmr2, RemapGmr2}
+use Rattle.svga_cmd.specs.declared.format.Format.{Format}
+use Rattle.svga_cmd.specs.declared.format.Format.TheVariants.{Bgrx32, Bgr24, Rgb565, Rgb555}
+use Rattle.svga_cmd.specs.declared.gmrfb.Gmrfb.{Gmrfb}
+use Rattle.svga_cmd.specs.declared.gmrfb.GuestPtr.{GuestPtr}
+use Rattle.svga_cmd.specs.declared.remap.RemapData.{RemapData}
+use Rattle.svga_cmd.specs.declared.remap.RemapData.TheVariants.{Ppn32, Ppn64, SinglePpn32, SinglePpn64, ViaGmr32, ViaGmr64}
+use Rattle.svga_cmd.specs.declared.screen.Backing.{Backing}
+use Rattle.svga_cmd.specs.declared.screen.ScreenDef.{ScreenDef}
+
+-- the word at a place
+abbrev pub at : List ℕ → ℕ → ℕ
+at ws i = slice_index ws i
+
+-- the signed number at a place
+abbrev pub signed_at : List ℕ → ℕ → ℤ
+signed_at ws i = cast_signed w32 (at ws i)
+
+abbrev pub format_of : ℕ → Format
+format_of w = if w == 0x1820 then Bgrx32 else if w == 0x1818 then Bgr24 else if w == 0x1010 then Rgb565 else Rgb555
+
+abbrev pub backing_in : List ℕ → Option Backing
+backing_in ws = if at ws 1 == 28 then None else Some (record { region = at ws 8; offset = at ws 9; pitch = at ws 10; clones = at ws 11 })
+
+abbrev pub screen_in : List ℕ → ScreenDef
+screen_in ws = record { id = at ws 2; flags = at ws 3; width = at ws 4; height = at ws 5; x = signed_at ws 6; y = signed_at ws 7; backing = backing_in ws }
+
+abbrev pub gmrfb_in : List ℕ → Gmrfb
+gmrfb_in ws = record { region = at ws 1; offset = at ws 2; pitch = at ws 3; format = format_of (at ws 4) }
+
+abbrev pub blit_in : List ℕ → Blit
+blit_in ws = record {
+  point = record { x = signed_at ws 1; y = signed_at ws 2 };
+  rect = record { left = signed_at ws 3; top = signed_at ws 4; right = signed_at ws 5; bottom = signed_at ws 6 };
+  screen = at ws 7;
+}
+
+abbrev pub pointer_in : List ℕ → GuestPtr
+pointer_in ws = record { region = at ws 5; offset = at ws 6 }
+
+abbrev pub entries_in : List ℕ → RemapData
+entries_in ws =
+    if at ws 2 == 0 then Ppn32 (drop 5 ws) else
+    if at ws 2 == 1 then ViaGmr32 (pointer_in ws) else
+    if at ws 2 == 2 then Ppn64 (drop 5 ws) else
+    if at ws 2 == 3 then ViaGmr64 (pointer_in ws) else
+    if at ws 2 == 4 then SinglePpn32 (at ws 5) else
+    SinglePpn64 (at ws 5) (at ws 6)
+
+abbrev pub command_in : List ℕ → Command
+command_in ws =
+    if at ws 0 == 1 then Update (at ws 1) (at ws 2) (at ws 3) (at ws 4) else
+    if at ws 0 == 30 then Fence (at ws 1) else
+    if at ws 0 == 34 then DefineScreen (screen_in ws) else
+    if at ws 0 == 35 then DestroyScreen (at ws 1) else
+    if at ws 0 == 36 then DefineGmrfb (gmrfb_in ws) else
+    if at ws 0 == 37 then BlitToScreen (blit_in ws) else
+    if at ws 0 == 38 then BlitToGmrfb (blit_in ws) else
+    if at ws 0 == 41 then DefineGmr2 (at ws 1) (at ws 2) else
+    RemapGmr2 (at ws 1) (at ws 3) (at ws 4) (entries_in ws)

@@ -1,0 +1,50 @@
+-- The words that a command's fields are spelled as.
+use Rattle.std.specs.Prelude.{ℕ, ℤ, List, [], ◌∷◌, Option, Some, None}
+use Rattle.std.specs.Int.{cast_unsigned, w32}
+use Rattle.svga_cmd.specs.declared.blit.Blit.{Blit}
+use Rattle.svga_cmd.specs.declared.format.Format.{Format}
+use Rattle.svga_cmd.specs.declared.format.Format.TheVariants.{Bgrx32, Bgr24, Rgb565, Rgb555}
+use Rattle.svga_cmd.specs.declared.remap.RemapData.{RemapData}
+use Rattle.svga_cmd.specs.declared.remap.RemapData.TheVariants.{Ppn32, Ppn64, SinglePpn32, SinglePpn64, ViaGmr32, ViaGmr64}
+use Rattle.svga_cmd.specs.declared.screen.Backing.{Backing}
+
+-- a signed number, in two's complement
+abbrev pub word_of : ℤ → ℕ
+word_of z = cast_unsigned w32 z
+
+-- a pixel format: bits per pixel in bits 0 to 7, colour depth in bits 8 to 15
+abbrev pub format_word : Format → ℕ
+format_word Bgrx32 = 0x1820
+format_word Bgr24 = 0x1818
+format_word Rgb565 = 0x1010
+format_word Rgb555 = 0x0F10
+
+-- the size of a screen's structure in bytes: a backing is four more words
+abbrev pub struct_size : Option Backing → ℕ
+struct_size None = 28
+struct_size (Some b) = 44
+
+abbrev pub backing_words : Option Backing → List ℕ
+backing_words None = []
+backing_words (Some b) = b.region ∷ b.offset ∷ b.pitch ∷ b.clones ∷ []
+
+abbrev pub blit_words : Blit → List ℕ
+blit_words b = word_of b.point.x ∷ word_of b.point.y ∷ word_of b.rect.left ∷ word_of b.rect.top ∷ word_of b.rect.right ∷ word_of b.rect.bottom ∷ b.screen ∷ []
+
+-- the flag word of a remap: 1 for entries in a region, 2 for 64 bits an entry, 4 for a single entry
+abbrev pub flags_of : RemapData → ℕ
+flags_of (Ppn32 list) = 0
+flags_of (ViaGmr32 pointer) = 1
+flags_of (Ppn64 list) = 2
+flags_of (ViaGmr64 pointer) = 3
+flags_of (SinglePpn32 page) = 4
+flags_of (SinglePpn64 low high) = 6
+
+-- the words of a remap's entries
+abbrev pub entry_words : RemapData → List ℕ
+entry_words (Ppn32 list) = list
+entry_words (Ppn64 list) = list
+entry_words (SinglePpn32 page) = page ∷ []
+entry_words (SinglePpn64 low high) = low ∷ high ∷ []
+entry_words (ViaGmr32 pointer) = pointer.region ∷ pointer.offset ∷ []
+entry_words (ViaGmr64 pointer) = pointer.region ∷ pointer.offset ∷ []

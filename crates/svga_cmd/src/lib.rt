@@ -1,0 +1,32 @@
+//! The commands of the SVGA II FIFO as values, and the one spelling of each as words.
+//!
+//! Every other crate speaks of commands, pages and faults by these types. Contracts see them as plain
+//! data: an enum by its variants, a struct by its fields, a list of numbers as that list.
+#![tactic(auto)]
+
+mod blit;
+mod command;
+mod fault;
+mod format;
+mod gmrfb;
+mod laws;
+mod limits;
+mod page;
+mod page_list;
+mod remap;
+mod remap_flags;
+mod screen;
+mod word;
+
+pub use blit::{Blit, Point, Rect};
+pub use command::{Command, CommandRef};
+pub use fault::Fault;
+pub use format::Format;
+pub use gmrfb::{Gmrfb, GuestPtr};
+pub use laws::unique_spelling;
+pub use limits::Limits;
+pub use page::{Page, PageKey};
+pub use page_list::PageList;
+pub use remap::{EntriesRef, RemapData};
+pub use screen::{Backing, ScreenDef};
+pub use word::{encode_short, word_at, word_count};

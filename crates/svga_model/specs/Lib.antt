@@ -1,0 +1,3 @@
+pub mod Endings
+pub mod RefusedWords
+pub mod Sentences

@@ -1,0 +1,4 @@
+//! The definitions that the contracts of all other crates cite, and the laws over them.
+//!
+//! It runs nothing. A law is the contract of a public function with an empty body.
+#![tactic(auto)]
