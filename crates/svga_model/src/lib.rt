@@ -2,3 +2,5 @@
 //!
 //! It runs nothing. A law is the contract of a public function with an empty body.
 #![tactic(auto)]
+
+mod grammar;

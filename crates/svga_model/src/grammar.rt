@@ -1,0 +1,1 @@
+//! What holds of sentences, bad places and endings. The functions do nothing: their contracts are the laws.
