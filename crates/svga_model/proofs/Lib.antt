@@ -1,6 +1,7 @@
 pub mod GrammarBegun
 pub mod GrammarComplete
 pub mod GrammarEndings
+pub mod GrammarBadPlaces
 pub mod GrammarFronts
 pub mod GrammarGrown
 pub mod GrammarLengths

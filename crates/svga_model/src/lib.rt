@@ -4,3 +4,5 @@
 #![tactic(auto)]
 
 mod grammar;
+
+pub use grammar::{one_ending, refused_word, viable_words};
