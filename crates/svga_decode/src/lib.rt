@@ -9,6 +9,8 @@ mod decoder;
 mod length;
 mod parse;
 mod refusal;
+mod scanning;
 
 pub use answer::{Cause, Fed};
 pub use decoder::Decoder;
+pub use scanning::{Ending, Scanned, scan};
