@@ -2,3 +2,7 @@
 //!
 //! It runs nothing. A law is the contract of a public function with an empty body.
 #![tactic(auto)]
+
+mod grammar;
+
+pub use grammar::{one_ending, refused_word, viable_words};
