@@ -1,10 +1,10 @@
 -- Calls on one sink in a row: what they did together.
-use Rattle.std.proofs.Common.{ℕ, ◌+◌, ◌≤◌, List, [], ◌++◌, length, take, sym, ◌∙◌, ap, subst, arith, length-append}
+use Rattle.std.proofs.Common.{◌≡◌, ℕ, ◌+◌, ◌-◌, drop, length-drop, append_assoc, append-nil, ◌≤◌, List, [], ◌++◌, length, take, sym, ◌∙◌, ap, subst, arith, length-append}
 use Rattle.std.proofs.Math.Seq.{take-append-add}
-use Rattle.std.proofs.lemmas.List.{take-append-le}
+use Rattle.std.proofs.lemmas.List.{take-append-le, take-append-drop, take_all}
 use Rattle.std.proofs.KnownBytes.{Appends-nil, Appends-trans}
-use Rattle.std.specs.Prelude.{Option}
-use Rattle.std.specs.Io.KnownBytes.{Appends}
+use Rattle.std.specs.Prelude.{Option, None, Some}
+use Rattle.std.specs.Io.KnownBytes.{Appends, Keeps}
 use Rattle.svga_io.specs.Rising.{Rises}
 use Rattle.svga_io.specs.Growing.{AppendsPrefix, Grows, GrowsByPrefix}
 
@@ -31,6 +31,17 @@ AppendsPrefix-then before between now xs ys whole (n, within, appended) = (
   omega (arith, length-append xs ys),
   subst (Appends before now) (sym (take-append-add xs ys n)) (Appends-trans before between now xs (take n ys) whole appended),
 )
+
+-- what has been written and what is left are all the bytes, also when n more are written
+pub split_on : (bytes done rest : List ℕ) (n : ℕ) → bytes ≡ done ++ rest → bytes ≡ (done ++ take n rest) ++ take (length rest - n) (drop n rest)
+split_on bytes done rest n is = is ∙ ap (λ t. done ++ t) (sym (take-append-drop n rest)) ∙ sym (append_assoc done (take n rest) (drop n rest))
+    ∙ ap (λ t. (done ++ take n rest) ++ t) (sym (take_all (length rest - n) (drop n rest) (omega (arith, length-drop n rest))))
+
+-- known bytes that stay grow by nothing
+pub Appends-Keeps : (before now : Option (List ℕ)) → Keeps before now → Appends before now []
+Appends-Keeps None now kept = tt
+Appends-Keeps (Some xs) None kept = kept
+Appends-Keeps (Some xs) (Some ys) kept = kept ∙ sym (append-nil xs)
 
 module _ {K : Type 0} {held : K → Option (List ℕ)} {faults : K → ℕ} where
   -- no call yet
