@@ -1,5 +1,5 @@
 //! Reading a whole input.
-ghost use Rattle.std.specs.Prelude.{◌≡◌, ◌↔◌, ◌+◌, ◌<◌, ◌≤◌, [], length, take, vec_len, Some, IsSome, IfSome, IfOk, OnOk, OnErr, IsErrOf};
+ghost use Rattle.std.specs.Prelude.{◌≡◌, ◌↔◌, ◌+◌, ◌<◌, ◌≤◌, [], length, take, vec_len, Some, IsSome, IfSome, IfOk, OnOk, OnErr, IsErrOf, IsOkUnless};
 ghost use Rattle.std.specs.Io.KnownBytes.{Consumes, Keeps};
 ghost use Rattle.svga_io.specs.Rising.{Rises};
 ghost use Rattle.svga_io.specs.Taking.{taken_count, LosesFront};
@@ -22,6 +22,7 @@ pub fn read_all<S: Source>(alloc: Global, source: &mut S, limit: usize) -> Resul
     // The count is the cause of a fault; a body can't raise it by itself.
     ensures read_fault { IsErrOf result InFault.ReadFault → Rises (S.faults source.old) (S.faults source.new) }
     ensures steady { S.faults source.old ≤ S.faults source.new }
+    ensures complete { IfSome (S.left source.old) (λ left. length left ≤ limit → ¬ (Rises (S.faults source.old) (S.faults source.new)) → IsOkUnless result InFault.Memory) }
 
     // Whatever the answer, the bytes taken are the front of what was left.
     ensures too_long { IfSome (taken_count (S.left source.old) (S.left source.new))
