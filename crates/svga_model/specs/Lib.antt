@@ -1,3 +1,5 @@
+pub mod Addresses
 pub mod Endings
+pub mod Fences
 pub mod RefusedWords
 pub mod Sentences

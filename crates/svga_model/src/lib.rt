@@ -2,3 +2,9 @@
 //!
 //! It runs nothing. A law is the contract of a public function with an empty body.
 #![tactic(auto)]
+
+mod addresses;
+mod fences;
+
+pub use addresses::one_turn;
+pub use fences::fence_order;
