@@ -3,7 +3,7 @@ use Rattle.std.specs.Prelude.{◌≡◌, ℕ, ◌+◌, ◌-◌, ◌%◌, ◌<◌
 use Rattle.svga_model.specs.Addresses.{address, dwords_between}
 use Rattle.svga_ring.specs.declared.plans.Geometry.{Geometry}
 
--- an offset or a count of bytes that is one of whole dwords
+-- an offset, or a count of bytes, of whole dwords
 abbrev pub IsWhole : ℕ → Type 0
 IsWhole bytes = bytes % 4 ≡ 0
 

@@ -23,8 +23,8 @@ pub fn passed(register: u32, fence: u32) -> bool
     register.wrapping_sub(fence) < 1 << 31
 }
 
-/// How many fences were executed when the register was read, from `seen` of which that is known already and
-/// the `emitted` ones that were sent.
+/// How many fences the value of the register shows: at least `seen`, the count that is known from before, and at
+/// most `emitted`, the count that was sent.
 pub fn seen_index(first: u32, seen: u64, emitted: u64, register: u32) -> u64
     requires first { 1 ≤ first }
     requires order { seen ≤ emitted }
@@ -33,7 +33,7 @@ pub fn seen_index(first: u32, seen: u64, emitted: u64, register: u32) -> u64
     ensures seen { IsSeen first seen emitted register result }
     ensures only { (j : ℕ) → IsSeen first seen emitted register j → result ≡ j }
 {
-    // Each fence moves the register by one place among the numbers, where 0 and the last number are one.
+    // Each fence moves the register by one place round the numbers, where the opening value 0 stands for the last one.
     let numbers = u64::from(NUMBERS);
     let before = (u64::from(first - 1) + seen % numbers) % numbers;
     seen + (u64::from(register) + numbers - before) % numbers
