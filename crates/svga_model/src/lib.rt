@@ -5,6 +5,8 @@
 
 mod addresses;
 mod fences;
+mod grammar;
 
 pub use addresses::one_turn;
 pub use fences::fence_order;
+pub use grammar::{one_ending, refused_word, viable_words};

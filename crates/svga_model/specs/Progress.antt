@@ -1,0 +1,11 @@
+-- Words that come one after another: how far they have come.
+use Rattle.std.specs.Prelude.{◌≡◌, ℕ, List, ◌++◌, All}
+use Rattle.svga_cmd.specs.WellFormed.{IsWellFormed}
+use Rattle.svga_cmd.specs.declared.command.Command.{Command}
+use Rattle.svga_model.specs.Sentences.{IsBegun, spelling_all}
+
+-- the words are these whole commands and, behind them, the words of one that has begun; these are none between two commands
+pub record HasCome (ws : List ℕ) (cs : List Command) (front : List ℕ) : Type 0 where
+  pub well_formed : All IsWellFormed cs
+  pub words : ws ≡ spelling_all cs ++ front
+  pub begun : IsBegun front
