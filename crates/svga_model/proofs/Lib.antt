@@ -1,10 +1,11 @@
+pub mod GrammarBadPlaces
 pub mod GrammarBegun
 pub mod GrammarComplete
 pub mod GrammarEndings
-pub mod GrammarBadPlaces
 pub mod GrammarFronts
 pub mod GrammarGrown
 pub mod GrammarLengths
 pub mod GrammarPrefixes
 pub mod GrammarSpelled
 pub mod GrammarTable
+pub mod Turns

@@ -3,6 +3,10 @@
 //! It runs nothing. A law is the contract of a public function with an empty body.
 #![tactic(auto)]
 
+mod addresses;
+mod fences;
 mod grammar;
 
+pub use addresses::one_turn;
+pub use fences::fence_order;
 pub use grammar::{one_ending, refused_word, viable_words};

@@ -1,0 +1,32 @@
+-- The numbers of fences, the register FENCE, and when a fence has passed.
+use Rattle.std.specs.Prelude.{ℕ, ◌+◌, ◌-◌, ◌%◌, ◌^◌, ◌<◌, ◌≤◌, ◌==◌, if◌then◌else◌}
+
+-- a number that a fence can have: 1 to 2 ^ 32 - 1, since 0 is none
+pub record IsFenceNumber (n : ℕ) : Type 0 where
+  pub least : 1 ≤ n
+  pub most : n < 2 ^ 32
+
+-- The number of fence k, counted from 0, where the first fence has the number first. Behind 2 ^ 32 - 1 comes 1.
+abbrev pub number_of_fence : ℕ → ℕ → ℕ
+number_of_fence first k = 1 + (first - 1 + k) % (2 ^ 32 - 1)
+
+-- the register FENCE after so many fences: the number of the last one, and at first the number below first
+abbrev pub register_after : ℕ → ℕ → ℕ
+register_after first fences = if fences == 0 then first - 1 else number_of_fence first (fences - 1)
+
+-- Fence k has passed where so many fences were seen. This is an order of places.
+abbrev pub HasPassed : ℕ → ℕ → Type 0
+HasPassed seen k = k < seen
+
+-- a - b modulo 2 ^ 32, of two words
+abbrev pub difference : ℕ → ℕ → ℕ
+difference a b = (a + (2 ^ 32 - b)) % 2 ^ 32
+
+-- The signed test: by its number alone the fence looks passed.
+abbrev pub LooksPassed : ℕ → ℕ → Type 0
+LooksPassed register fence = difference register fence < 2 ^ 31
+
+-- two places of fences, or a count of fences and a place, that are at most 65,536 apart
+pub record AreNear (j k : ℕ) : Type 0 where
+  pub ahead : j ≤ k + 65536
+  pub behind : k ≤ j + 65536

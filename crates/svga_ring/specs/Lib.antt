@@ -1,0 +1,3 @@
+pub mod Plans
+pub mod Rings
+pub mod Seen
