@@ -1,9 +1,10 @@
 -- How a scan goes on with one word, and how it ends.
-use Rattle.std.proofs.Common.{◌≡◌, ℕ, ◌+◌, ◌-◌, ◌<◌, List, [], ◌∷◌, ◌++◌, length, take, drop, slice_index, Some, refl, ap, sym, subst, ◌∙◌, arith, length-append, length-take, append-nil}
+use Rattle.std.proofs.Common.{◌≡◌, ℕ, ◌+◌, ◌<◌, List, [], ◌∷◌, ◌++◌, length, take, drop, slice_index, refl, ap, sym, subst, ◌∙◌, arith, length-append, length-take}
 use Rattle.std.proofs.lemmas.List.{take-append-drop, drop_more}
 use Rattle.svga_cmd.specs.Spelling.{Spells}
 use Rattle.svga_cmd.specs.declared.command.Command.{Command}
-use Rattle.svga_decode.specs.Answers.{IsAnswer, IsLastRefused, refusal_of}
+use Rattle.svga_decode.proofs.FeedLaws.{fed_refused, fed_whole, ready_front, ready_live}
+use Rattle.svga_decode.specs.Answers.{IsAnswer, refusal_of}
 use Rattle.svga_decode.specs.Reading.{Reading, IsBetween, IsLive, IsReady, front, front_of}
 use Rattle.svga_decode.specs.Scans.{IsRead, IsScan}
 use Rattle.svga_decode.specs.declared.answer.Cause.{Cause}
@@ -14,26 +15,9 @@ use Rattle.svga_decode.specs.declared.scanning.Progress.{Progress}
 use Rattle.svga_model.specs.Endings as model
 use Rattle.svga_model.specs.Endings.{fence_after, last_fence}
 use Rattle.svga_model.specs.Progress.{HasCome}
-use Rattle.svga_model.specs.RefusedWords.{Refusal, refusal}
-use Rattle.svga_model.specs.Sentences.{IsBegun, spelling_all}
-use Rattle.svga_model.proofs.GrammarBadPlaces.{verdict}
-use Rattle.svga_model.proofs.GrammarEndings.{refused_ending, torn_ending, whole_ending}
-use Rattle.svga_model.proofs.GrammarFronts.{HasCome-nil, HasCome-more, HasCome-whole, last_fence-push}
-
--- between two commands the next word follows none
-ready_front : (r : Reading) → IsReady r → front r ≡ []
-ready_front r ready = by r.last r.words ready where
-  by : (fed : Fed) (ws : List ℕ) → IsBetween fed ws → front_of fed ws ≡ []
-  by More ws e = e
-  by Whole ws e = refl
-  by (Refused cause) ws e = absurd e
-
-pub ready_live : (r : Reading) → IsReady r → IsLive r.last
-ready_live r ready = by r.last r.words ready where
-  by : (fed : Fed) (ws : List ℕ) → IsBetween fed ws → IsLive fed
-  by More ws e = tt
-  by Whole ws e = tt
-  by (Refused cause) ws e = absurd e
+use Rattle.svga_model.specs.Sentences.{spelling_all}
+use Rattle.svga_model.proofs.GrammarEndings.{torn_ending, whole_ending}
+use Rattle.svga_model.proofs.GrammarFronts.{HasCome-nil, last_fence-push}
 
 pub nothing_read : (r : Reading) → IsReady r → IsRead [] (record { commands = 0; fence = 0 }) r
 nothing_read r ready = ([], record { come = subst (HasCome [] []) (sym (ready_front r ready)) HasCome-nil; commands = refl; fence = refl; live = ready_live r ready })
@@ -42,7 +26,7 @@ pub whole_read : (ws : List ℕ) (p q : Progress) (r new : Reading) (word : ℕ)
 whole_read ws p q r new word c read s is commands fence = (
   read.0 ++ c ∷ [],
   record {
-    come = subst (HasCome (ws ++ word ∷ []) (read.0 ++ c ∷ [])) (sym (ap front is)) (HasCome-whole ws read.0 (front r) word c read.1.come s);
+    come = fed_whole ws read.0 r new word c read.1.come s is;
     commands = commands ∙ ap (λ n. n + 1) read.1.commands ∙ (let e : length read.0 + 1 ≡ length (read.0 ++ c ∷ []) = omega (arith, length-append read.0 (c ∷ [])) in e);
     fence = fence ∙ ap (λ f. fence_after f c) read.1.fence ∙ sym (last_fence-push read.0 c);
     live = subst (λ n. IsLive n.last) (sym is) tt;
@@ -93,7 +77,7 @@ refused_scan ws i p r new cause l read answer left = (
   record {
     ending = subst (λ t. model.IsEnding t read.0 (model.Refused i (refusal_of cause))) (split_at ws i l)
         (subst (λ k. model.IsEnding (take i ws ++ word ∷ rest) read.0 (model.Refused k (refusal_of cause))) (let e : length (take i ws) ≡ i = omega (arith, length-take i ws) in e)
-        (refused_ending (take i ws) read.0 (front r) word rest (refusal_of cause) read.1.come answer.0 (last_verdict (front r) word (refusal_of cause) answer.1)));
+        (fed_refused (take i ws) read.0 r word rest cause read.1.come answer));
     commands = read.1.commands;
     fence = read.1.fence;
     decoder = left;
@@ -105,7 +89,3 @@ refused_scan ws i p r new cause l read answer left = (
 
     rest : List ℕ
     rest = drop (i + 1) ws
-
-    last_verdict : (front : List ℕ) (word : ℕ) (why : Refusal) → IsLastRefused (front ++ word ∷ []) why → verdict front word ≡ Some why
-    last_verdict front word why e = subst (λ n. refusal n (slice_index (front ++ word ∷ []) 0) (slice_index (front ++ word ∷ []) n) ≡ Some why)
-        (let n : length (front ++ word ∷ []) - 1 ≡ length front = omega (arith, length-append front (word ∷ [])) in n) e
