@@ -12,7 +12,7 @@ use Rattle.svga_model.specs.Endings as model
 use Rattle.svga_model.specs.Progress.{HasCome}
 use Rattle.svga_model.specs.RefusedWords.{Refusal, Unsupported, ThreeD, Escape, Unknown, BadSize, BadFlags, BadFormat, TooManyPages, refusal}
 use Rattle.svga_model.proofs.GrammarBadPlaces.{verdict}
-use Rattle.svga_model.proofs.GrammarEndings.{refused_ending}
+use Rattle.svga_model.proofs.GrammarEndings.{refused_ending, torn_ending, whole_ending}
 use Rattle.svga_model.proofs.GrammarFronts.{HasCome-more, HasCome-whole}
 use Rattle.svga_model.proofs.GrammarPrefixes.{spelled_not_begun}
 use Rattle.svga_model.proofs.GrammarSpelled.{begun_begins, spelled_begins}
@@ -47,6 +47,38 @@ last_verdict front word why e = subst (λ n. refusal n (slice_index (front ++ wo
 -- the word is refused, and so the words end there, whatever follows
 pub fed_refused : (ws : List ℕ) (cs : List Command) (r : Reading) (word : ℕ) (rest : List ℕ) (cause : Cause) → HasCome ws cs (front r) → IsAnswer (Refused cause) (front r ++ word ∷ []) → model.IsEnding (ws ++ word ∷ rest) cs (model.Refused (length ws) (refusal_of cause))
 fed_refused ws cs r word rest cause come answer = refused_ending ws cs (front r) word rest (refusal_of cause) come answer.0 (last_verdict (front r) word (refusal_of cause) answer.1)
+
+-- no word follows, between two commands
+pub ready_ending : (ws : List ℕ) (cs : List Command) (r : Reading) → HasCome ws cs (front r) → IsReady r → model.IsEnding ws cs model.Whole
+ready_ending ws cs r come ready = whole_ending ws cs (subst (HasCome ws cs) (ready_front r ready) come)
+
+-- a decoder that refused nothing and isn't between two commands has answered More
+pub unready_more : (r : Reading) → IsLive r.last → (IsReady r → ⊥) → r.last ≡ More
+unready_more r live unready = by r.last live unready where
+  by : (fed : Fed) → IsLive fed → (IsBetween fed r.words → ⊥) → fed ≡ More
+  by More live unready = refl
+  by Whole live unready = absurd (unready tt)
+  by (Refused cause) live unready = absurd live
+
+-- no word follows, inside a command
+pub unready_ending : (ws : List ℕ) (cs : List Command) (r : Reading) → HasCome ws cs (front r) → IsLive r.last → (IsReady r → ⊥) → model.IsEnding ws cs (model.Torn (length ws))
+unready_ending ws cs r come live unready = torn r.words (subst (HasCome ws cs) (ap (λ fed. front_of fed r.words) more) come) (subst (λ fed. IsBetween fed r.words → ⊥) more unready) where
+  more : r.last ≡ More
+  more = unready_more r live unready
+
+  torn : (rest : List ℕ) → HasCome ws cs rest → (rest ≡ [] → ⊥) → model.IsEnding ws cs (model.Torn (length ws))
+  torn [] come some = absurd (some refl)
+  torn (word ∷ rest) come some = torn_ending ws cs word rest come
+
+-- a decoder that has just answered Whole is between two commands, and one that has just answered More is not
+pub whole_ready : (r new : Reading) (word : ℕ) → new ≡ record { words = front r ++ word ∷ []; last = Whole } → IsReady new
+whole_ready r new word is = subst IsReady (sym is) tt
+
+pub more_unready : (r new : Reading) (word : ℕ) → new ≡ record { words = front r ++ word ∷ []; last = More } → IsReady new → ⊥
+more_unready r new word is ready =
+    let none : front r ++ word ∷ [] ≡ [] = subst IsReady is ready in
+    let count : length (front r ++ word ∷ []) ≡ 0 = ap length none in
+    omega (arith, count, length-append (front r) (word ∷ []))
 
 -- the cause with a meaning
 abbrev cause_of : Refusal → Cause

@@ -3,12 +3,11 @@ use Rattle.std.proofs.Common.{◌≡◌, ℕ, ◌+◌, ◌<◌, List, [], ◌∷
 use Rattle.std.proofs.lemmas.List.{take-append-drop, drop_more}
 use Rattle.svga_cmd.specs.Spelling.{Spells}
 use Rattle.svga_cmd.specs.declared.command.Command.{Command}
-use Rattle.svga_decode.proofs.FeedLaws.{fed_refused, fed_whole, ready_front, ready_live}
+use Rattle.svga_decode.proofs.FeedLaws.{fed_refused, fed_whole, ready_ending, ready_front, ready_live, unready_ending, unready_more}
 use Rattle.svga_decode.specs.Answers.{IsAnswer, refusal_of}
-use Rattle.svga_decode.specs.Reading.{Reading, IsBetween, IsLive, IsReady, front, front_of}
+use Rattle.svga_decode.specs.Reading.{Reading, IsLive, IsReady, front, front_of}
 use Rattle.svga_decode.specs.Scans.{IsRead, IsScan}
 use Rattle.svga_decode.specs.declared.answer.Cause.{Cause}
-use Rattle.svga_decode.specs.declared.answer.Fed.{Fed}
 use Rattle.svga_decode.specs.declared.answer.Fed.TheVariants.{More, Whole, Refused}
 use Rattle.svga_decode.specs.declared.scanning.Ending.TheVariants as ending
 use Rattle.svga_decode.specs.declared.scanning.Progress.{Progress}
@@ -16,7 +15,6 @@ use Rattle.svga_model.specs.Endings as model
 use Rattle.svga_model.specs.Endings.{fence_after, last_fence}
 use Rattle.svga_model.specs.Progress.{HasCome}
 use Rattle.svga_model.specs.Sentences.{spelling_all}
-use Rattle.svga_model.proofs.GrammarEndings.{torn_ending, whole_ending}
 use Rattle.svga_model.proofs.GrammarFronts.{HasCome-nil, last_fence-push}
 
 pub nothing_read : (r : Reading) → IsReady r → IsRead [] (record { commands = 0; fence = 0 }) r
@@ -34,38 +32,19 @@ whole_read ws p q r new word c read s is commands fence = (
 )
 
 pub whole_scan : (ws : List ℕ) (p : Progress) (r : Reading) → IsRead ws p r → IsReady r → IsScan ws (record { commands = p.commands; fence = p.fence; ending = ending.Whole }) r
-whole_scan ws p r read ready = (
-  read.0,
-  record {
-    ending = whole_ending ws read.0 (subst (HasCome ws read.0) (ready_front r ready) read.1.come);
-    commands = read.1.commands;
-    fence = read.1.fence;
-    decoder = ready;
-  },
-)
+whole_scan ws p r read ready = (read.0, record { ending = ready_ending ws read.0 r read.1.come ready; commands = read.1.commands; fence = read.1.fence; decoder = ready })
 
 pub torn_scan : (ws : List ℕ) (p : Progress) (r : Reading) → IsRead ws p r → (IsReady r → ⊥) → IsScan ws (record { commands = p.commands; fence = p.fence; ending = ending.Torn (length ws) }) r
-torn_scan ws p r read not_ready = (
-  read.0,
-  record {
-    ending = torn r.words (subst (HasCome ws read.0) (ap (λ fed. front_of fed r.words) more) read.1.come) (subst (λ fed. IsBetween fed r.words → ⊥) more not_ready);
-    commands = read.1.commands;
-    fence = read.1.fence;
-    decoder = (more, read.1.come.words ∙ ap (λ fed. spelling_all read.0 ++ front_of fed r.words) more);
-  },
-)
-  where
-    is_more : (fed : Fed) → IsLive fed → (IsBetween fed r.words → ⊥) → fed ≡ More
-    is_more More live not = refl
-    is_more Whole live not = absurd (not tt)
-    is_more (Refused cause) live not = absurd live
-
-    more : r.last ≡ More
-    more = is_more r.last read.1.live not_ready
-
-    torn : (rest : List ℕ) → HasCome ws read.0 rest → (rest ≡ [] → ⊥) → model.IsEnding ws read.0 (model.Torn (length ws))
-    torn [] come some = absurd (some refl)
-    torn (word ∷ rest) come some = torn_ending ws read.0 word rest come
+torn_scan ws p r read unready =
+    let more : r.last ≡ More = unready_more r read.1.live unready in (
+      read.0,
+      record {
+        ending = unready_ending ws read.0 r read.1.come read.1.live unready;
+        commands = read.1.commands;
+        fence = read.1.fence;
+        decoder = (more, read.1.come.words ∙ ap (λ fed. spelling_all read.0 ++ front_of fed r.words) more);
+      },
+    )
 
 -- the list at a place
 split_at : (ws : List ℕ) (i : ℕ) → i < length ws → take i ws ++ slice_index ws i ∷ drop (i + 1) ws ≡ ws
