@@ -1,5 +1,5 @@
 -- Reading undoes spelling, so a list of words spells one command.
-use Rattle.std.proofs.Common.{◌≡◌, ℕ, ℤ, List, [], ◌∷◌, ◌++◌, refl, ap, sym, ◌∙◌, Option, Some, None, w32}
+use Rattle.std.proofs.Common.{◌≡◌, ℕ, ℤ, List, ◌∷◌, refl, ap, sym, ◌∙◌, Option, Some, None, w32}
 use Rattle.std.proofs.lemmas.Int.{to_z-of_z}
 use Rattle.std.specs.Int.{cast_signed}
 use Rattle.std.specs.Prelude.{FitsSigned}

@@ -30,3 +30,6 @@ pub use page_list::PageList;
 pub use remap::{EntriesRef, RemapData};
 pub use screen::{Backing, ScreenDef};
 pub use word::{encode_short, word_at, word_count};
+
+#[cfg(test)]
+mod tests;
