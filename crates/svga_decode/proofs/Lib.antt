@@ -1,1 +1,2 @@
+pub mod FeedLaws
 pub mod ScanLaws

@@ -1,39 +1,21 @@
 -- How a scan goes on with one word, and how it ends.
-use Rattle.std.proofs.Common.{◌≡◌, ℕ, ◌+◌, ◌-◌, ◌<◌, List, [], ◌∷◌, ◌++◌, length, take, drop, slice_index, Some, refl, ap, sym, subst, ◌∙◌, arith, length-append, length-take, append-nil}
+use Rattle.std.proofs.Common.{◌≡◌, ℕ, ◌+◌, ◌<◌, List, [], ◌∷◌, ◌++◌, length, take, drop, slice_index, refl, ap, sym, subst, ◌∙◌, arith, length-append, length-take}
 use Rattle.std.proofs.lemmas.List.{take-append-drop, drop_more}
 use Rattle.svga_cmd.specs.Spelling.{Spells}
 use Rattle.svga_cmd.specs.declared.command.Command.{Command}
-use Rattle.svga_decode.specs.Answers.{IsAnswer, IsLastRefused, refusal_of}
-use Rattle.svga_decode.specs.Reading.{Reading, IsBetween, IsLive, IsReady, front, front_of}
+use Rattle.svga_decode.proofs.FeedLaws.{fed_refused, fed_whole, ready_ending, ready_front, ready_live, unready_ending, unready_more}
+use Rattle.svga_decode.specs.Answers.{IsAnswer, refusal_of}
+use Rattle.svga_decode.specs.Reading.{Reading, IsLive, IsReady, front, front_of}
 use Rattle.svga_decode.specs.Scans.{IsRead, IsScan}
 use Rattle.svga_decode.specs.declared.answer.Cause.{Cause}
-use Rattle.svga_decode.specs.declared.answer.Fed.{Fed}
 use Rattle.svga_decode.specs.declared.answer.Fed.TheVariants.{More, Whole, Refused}
 use Rattle.svga_decode.specs.declared.scanning.Ending.TheVariants as ending
 use Rattle.svga_decode.specs.declared.scanning.Progress.{Progress}
 use Rattle.svga_model.specs.Endings as model
 use Rattle.svga_model.specs.Endings.{fence_after, last_fence}
 use Rattle.svga_model.specs.Progress.{HasCome}
-use Rattle.svga_model.specs.RefusedWords.{Refusal, refusal}
-use Rattle.svga_model.specs.Sentences.{IsBegun, spelling_all}
-use Rattle.svga_model.proofs.GrammarBadPlaces.{verdict}
-use Rattle.svga_model.proofs.GrammarEndings.{refused_ending, torn_ending, whole_ending}
-use Rattle.svga_model.proofs.GrammarFronts.{HasCome-nil, HasCome-more, HasCome-whole, last_fence-push}
-
--- between two commands the next word follows none
-ready_front : (r : Reading) → IsReady r → front r ≡ []
-ready_front r ready = by r.last r.words ready where
-  by : (fed : Fed) (ws : List ℕ) → IsBetween fed ws → front_of fed ws ≡ []
-  by More ws e = e
-  by Whole ws e = refl
-  by (Refused cause) ws e = absurd e
-
-pub ready_live : (r : Reading) → IsReady r → IsLive r.last
-ready_live r ready = by r.last r.words ready where
-  by : (fed : Fed) (ws : List ℕ) → IsBetween fed ws → IsLive fed
-  by More ws e = tt
-  by Whole ws e = tt
-  by (Refused cause) ws e = absurd e
+use Rattle.svga_model.specs.Sentences.{spelling_all}
+use Rattle.svga_model.proofs.GrammarFronts.{HasCome-nil, last_fence-push}
 
 pub nothing_read : (r : Reading) → IsReady r → IsRead [] (record { commands = 0; fence = 0 }) r
 nothing_read r ready = ([], record { come = subst (HasCome [] []) (sym (ready_front r ready)) HasCome-nil; commands = refl; fence = refl; live = ready_live r ready })
@@ -42,7 +24,7 @@ pub whole_read : (ws : List ℕ) (p q : Progress) (r new : Reading) (word : ℕ)
 whole_read ws p q r new word c read s is commands fence = (
   read.0 ++ c ∷ [],
   record {
-    come = subst (HasCome (ws ++ word ∷ []) (read.0 ++ c ∷ [])) (sym (ap front is)) (HasCome-whole ws read.0 (front r) word c read.1.come s);
+    come = fed_whole ws read.0 r new word c read.1.come s is;
     commands = commands ∙ ap (λ n. n + 1) read.1.commands ∙ (let e : length read.0 + 1 ≡ length (read.0 ++ c ∷ []) = omega (arith, length-append read.0 (c ∷ [])) in e);
     fence = fence ∙ ap (λ f. fence_after f c) read.1.fence ∙ sym (last_fence-push read.0 c);
     live = subst (λ n. IsLive n.last) (sym is) tt;
@@ -50,38 +32,19 @@ whole_read ws p q r new word c read s is commands fence = (
 )
 
 pub whole_scan : (ws : List ℕ) (p : Progress) (r : Reading) → IsRead ws p r → IsReady r → IsScan ws (record { commands = p.commands; fence = p.fence; ending = ending.Whole }) r
-whole_scan ws p r read ready = (
-  read.0,
-  record {
-    ending = whole_ending ws read.0 (subst (HasCome ws read.0) (ready_front r ready) read.1.come);
-    commands = read.1.commands;
-    fence = read.1.fence;
-    decoder = ready;
-  },
-)
+whole_scan ws p r read ready = (read.0, record { ending = ready_ending ws read.0 r read.1.come ready; commands = read.1.commands; fence = read.1.fence; decoder = ready })
 
 pub torn_scan : (ws : List ℕ) (p : Progress) (r : Reading) → IsRead ws p r → (IsReady r → ⊥) → IsScan ws (record { commands = p.commands; fence = p.fence; ending = ending.Torn (length ws) }) r
-torn_scan ws p r read not_ready = (
-  read.0,
-  record {
-    ending = torn r.words (subst (HasCome ws read.0) (ap (λ fed. front_of fed r.words) more) read.1.come) (subst (λ fed. IsBetween fed r.words → ⊥) more not_ready);
-    commands = read.1.commands;
-    fence = read.1.fence;
-    decoder = (more, read.1.come.words ∙ ap (λ fed. spelling_all read.0 ++ front_of fed r.words) more);
-  },
-)
-  where
-    is_more : (fed : Fed) → IsLive fed → (IsBetween fed r.words → ⊥) → fed ≡ More
-    is_more More live not = refl
-    is_more Whole live not = absurd (not tt)
-    is_more (Refused cause) live not = absurd live
-
-    more : r.last ≡ More
-    more = is_more r.last read.1.live not_ready
-
-    torn : (rest : List ℕ) → HasCome ws read.0 rest → (rest ≡ [] → ⊥) → model.IsEnding ws read.0 (model.Torn (length ws))
-    torn [] come some = absurd (some refl)
-    torn (word ∷ rest) come some = torn_ending ws read.0 word rest come
+torn_scan ws p r read unready =
+    let more : r.last ≡ More = unready_more r read.1.live unready in (
+      read.0,
+      record {
+        ending = unready_ending ws read.0 r read.1.come read.1.live unready;
+        commands = read.1.commands;
+        fence = read.1.fence;
+        decoder = (more, read.1.come.words ∙ ap (λ fed. spelling_all read.0 ++ front_of fed r.words) more);
+      },
+    )
 
 -- the list at a place
 split_at : (ws : List ℕ) (i : ℕ) → i < length ws → take i ws ++ slice_index ws i ∷ drop (i + 1) ws ≡ ws
@@ -93,7 +56,7 @@ refused_scan ws i p r new cause l read answer left = (
   record {
     ending = subst (λ t. model.IsEnding t read.0 (model.Refused i (refusal_of cause))) (split_at ws i l)
         (subst (λ k. model.IsEnding (take i ws ++ word ∷ rest) read.0 (model.Refused k (refusal_of cause))) (let e : length (take i ws) ≡ i = omega (arith, length-take i ws) in e)
-        (refused_ending (take i ws) read.0 (front r) word rest (refusal_of cause) read.1.come answer.0 (last_verdict (front r) word (refusal_of cause) answer.1)));
+        (fed_refused (take i ws) read.0 r word rest cause read.1.come answer));
     commands = read.1.commands;
     fence = read.1.fence;
     decoder = left;
@@ -105,7 +68,3 @@ refused_scan ws i p r new cause l read answer left = (
 
     rest : List ℕ
     rest = drop (i + 1) ws
-
-    last_verdict : (front : List ℕ) (word : ℕ) (why : Refusal) → IsLastRefused (front ++ word ∷ []) why → verdict front word ≡ Some why
-    last_verdict front word why e = subst (λ n. refusal n (slice_index (front ++ word ∷ []) 0) (slice_index (front ++ word ∷ []) n) ≡ Some why)
-        (let n : length (front ++ word ∷ []) - 1 ≡ length front = omega (arith, length-append front (word ∷ [])) in n) e

@@ -6,6 +6,7 @@
 
 mod answer;
 mod decoder;
+mod laws;
 mod length;
 mod parse;
 mod refusal;
@@ -13,4 +14,8 @@ mod scanning;
 
 pub use answer::{Cause, Fed};
 pub use decoder::Decoder;
+pub use laws::one_answer;
 pub use scanning::{Ending, Scanned, scan};
+
+#[cfg(test)]
+mod tests;

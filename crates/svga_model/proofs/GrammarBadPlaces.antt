@@ -1,5 +1,5 @@
 -- Bad places: the table of refused words finds them, and words have one at most.
-use Rattle.std.proofs.Common.{◌≡◌, ℕ, ◌+◌, ◌-◌, ◌≤◌, ◌<◌, ◌^◌, List, [], ◌∷◌, ◌++◌, length, take, drop, slice_index, Option, Some, None, refl, ap, sym, subst, ◌∙◌, arith, inl, inr, ◌⊎◌, length-append, length-take, append-nil, append_assoc}
+use Rattle.std.proofs.Common.{◌≡◌, ℕ, ◌+◌, ◌-◌, ◌≤◌, ◌<◌, ◌^◌, List, [], ◌∷◌, ◌++◌, length, take, drop, slice_index, Option, Some, None, refl, ap, sym, subst, ◌∙◌, arith, inl, inr, length-append, length-take, append_assoc}
 use Rattle.std.proofs.Math.Seq.{take-append_seam, take-append-add}
 use Rattle.std.proofs.lemmas.List.{drop_more, get_or-append_right, get_or_append_left, get_or_past, take-append-drop, take-append-le}
 use Rattle.svga_cmd.specs.Reading.{command_in}
@@ -14,7 +14,7 @@ use Rattle.svga_model.proofs.GrammarBegun.{part_begun}
 use Rattle.svga_model.proofs.GrammarComplete.{complete_spells}
 use Rattle.svga_model.proofs.GrammarFronts.{HasCome-more, HasCome-whole, begins_viable, come_front, come_viable, one_front, refused_front, refused_not_viable, viable_come}
 use Rattle.svga_model.proofs.GrammarGrown.{IsGrown, grown_complete, grown_part}
-use Rattle.svga_model.proofs.GrammarSpelled.{begun_begins, begun_part, refused_begins_none, spelled_begins}
+use Rattle.svga_model.proofs.GrammarSpelled.{begun_part, refused_begins_none}
 use Rattle.svga_model.proofs.GrammarTable.{is_or_not, le_or_lt}
 
 -- what the table says of the last of these words of one command

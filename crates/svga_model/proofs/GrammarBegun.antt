@@ -10,7 +10,7 @@ use Rattle.svga_cmd.specs.WellFormed.{IsWellFormed}
 use Rattle.svga_cmd.specs.declared.command.Command.{Command}
 use Rattle.svga_cmd.specs.declared.command.Command.TheVariants.{Fence, DefineScreen, DefineGmrfb}
 use Rattle.svga_cmd.specs.declared.format.Format.TheVariants.{Bgrx32}
-use Rattle.svga_model.specs.Accepted.{AreWords, AreAccepted, IsPart, IsComplete}
+use Rattle.svga_model.specs.Accepted.{AreWords, AreAccepted, IsPart}
 use Rattle.svga_model.specs.Lengths.{count_by_id, whole_length}
 use Rattle.svga_model.specs.RefusedWords.{refusal}
 use Rattle.svga_model.specs.Sentences.{IsBegun}

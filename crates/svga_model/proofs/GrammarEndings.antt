@@ -1,13 +1,13 @@
 -- Endings: each list of words has one, and one alone.
-use Rattle.std.proofs.Common.{◌≡◌, ℕ, ◌+◌, List, [], ◌∷◌, ◌++◌, length, take, Some, refl, ap, sym, subst, ◌∙◌, arith, append-nil, append_assoc}
+use Rattle.std.proofs.Common.{◌≡◌, ℕ, ◌+◌, List, [], ◌∷◌, ◌++◌, length, Some, refl, ap, sym, subst, ◌∙◌, append-nil, append_assoc}
 use Rattle.std.proofs.lemmas.List.{append_cancel_left}
 use Rattle.svga_cmd.specs.declared.command.Command.{Command}
 use Rattle.svga_model.specs.Accepted.{AreWords}
 use Rattle.svga_model.specs.Endings.{End, Whole, Refused, Torn, EndsAs, IsBadPlace, IsEnding, IsFront, IsRefusedAs}
 use Rattle.svga_model.specs.Progress.{HasCome}
 use Rattle.svga_model.specs.RefusedWords.{Refusal}
-use Rattle.svga_model.specs.Sentences.{Begins, IsBegun, IsSentence, IsViable, spelling_all}
-use Rattle.svga_model.proofs.GrammarBadPlaces.{IsJudged, goes_on, is_whole, is_refused, judged, verdict, command_words, one_bad_place, refused_as, refused_bad_place, viable_take}
+use Rattle.svga_model.specs.Sentences.{Begins, IsSentence, IsViable, spelling_all}
+use Rattle.svga_model.proofs.GrammarBadPlaces.{goes_on, is_whole, is_refused, judged, verdict, command_words, one_bad_place, refused_as, refused_bad_place, viable_take}
 use Rattle.svga_model.proofs.GrammarFronts.{HasCome-nil, HasCome-more, HasCome-whole, come_front, come_viable, nothing_begun, one_front, refused_front}
 
 -- all words have come, and no command is torn

@@ -1,5 +1,5 @@
 -- Words that come one after another, and the commands at their front.
-use Rattle.std.proofs.Common.{◌≡◌, ℕ, ◌+◌, ◌≤◌, ◌<◌, List, [], ◌∷◌, ◌++◌, length, take, refl, ap, sym, subst, ◌∙◌, arith, inl, inr, length-append, append-nil, append_assoc}
+use Rattle.std.proofs.Common.{◌≡◌, ℕ, ◌+◌, ◌≤◌, ◌<◌, List, [], ◌∷◌, ◌++◌, length, refl, ap, sym, subst, ◌∙◌, arith, inl, inr, length-append, append-nil, append_assoc}
 use Rattle.std.proofs.lemmas.Grind.{flat_map-append}
 use Rattle.std.proofs.lemmas.List.{append_cancel_left}
 use Rattle.std.proofs.lemmas.List.Elements.{All-cons, All-head, All-nil, All-push, All-tail}
@@ -9,9 +9,9 @@ use Rattle.svga_cmd.specs.Spelling.{Spells, spelling}
 use Rattle.svga_cmd.specs.WellFormed.{IsWellFormed}
 use Rattle.svga_cmd.specs.declared.command.Command.{Command}
 use Rattle.svga_cmd.specs.declared.command.Command.TheVariants.{Fence}
-use Rattle.svga_model.specs.Endings.{IsFront, StandAtFront, fence_after, last_fence}
+use Rattle.svga_model.specs.Endings.{IsFront, fence_after, last_fence}
 use Rattle.svga_model.specs.Progress.{HasCome}
-use Rattle.svga_model.specs.Sentences.{Begins, IsBegun, IsSentence, IsViable, spelling_all}
+use Rattle.svga_model.specs.Sentences.{Begins, IsBegun, IsViable, spelling_all}
 use Rattle.svga_model.proofs.GrammarPrefixes.{begun_has_none, same_first, shorter_front}
 use Rattle.svga_model.proofs.GrammarSpelled.{begun_begins}
 use Rattle.svga_model.proofs.GrammarTable.{le_or_lt}

@@ -1,9 +1,9 @@
 -- One word more behind words that have begun: the command goes on, or it is whole, or the table refuses the word.
-use Rattle.std.proofs.Common.{◌≡◌, ℕ, ◌+◌, ◌≤◌, ◌<◌, ◌≢◌, List, length, take, slice_index, ap, sym, subst, ◌∙◌, None, Some, arith, inl, inr, below_more, length-take}
+use Rattle.std.proofs.Common.{◌≡◌, ℕ, ◌+◌, ◌≤◌, ◌<◌, ◌≢◌, List, length, take, slice_index, sym, subst, None, arith, inl, inr, below_more, length-take}
 use Rattle.std.proofs.lemmas.Grind.{common_steps}
 use Rattle.std.proofs.lemmas.List.{get_or-take}
-use Rattle.svga_model.specs.Accepted.{AreAccepted, AreWords, IsPart, IsComplete}
-use Rattle.svga_model.specs.Lengths.{count_by_id, whole_length}
+use Rattle.svga_model.specs.Accepted.{AreAccepted, IsPart, IsComplete}
+use Rattle.svga_model.specs.Lengths.{whole_length}
 use Rattle.svga_model.specs.RefusedWords.{refusal}
 use Rattle.svga_model.proofs.GrammarLengths.{one_at_least, one_more, whole_length-le}
 use Rattle.svga_model.proofs.GrammarTable.{known, le_or_lt}

@@ -1,10 +1,8 @@
 -- How many words a command has, by what is known of its first words.
-use Rattle.std.proofs.Common.{◌≡◌, ℕ, ◌+◌, ◌*◌, ◌≤◌, ◌<◌, List, ◌++◌, length, slice_index, refl, ◌∙◌, ap, sym, Option, Some, None, arith, inl, inr, length-append, subst, take, length-take, add-one, suc}
+use Rattle.std.proofs.Common.{◌≡◌, ℕ, ◌+◌, ◌≤◌, ◌<◌, List, ◌++◌, length, slice_index, refl, Option, Some, None, arith, inl, inr, subst}
 use Rattle.std.proofs.lemmas.Bool.Decides.{nat_tests}
-use Rattle.std.proofs.lemmas.List.{get_or-take}
 use Rattle.svga_cmd.specs.Spelling.{spelling}
 use Rattle.svga_cmd.specs.WellFormed.{IsWellFormed}
-use Rattle.svga_cmd.specs.Words.{backing_words}
 use Rattle.svga_cmd.specs.declared.command.Command.{Command}
 use Rattle.svga_cmd.specs.declared.command.Command.TheVariants.{Update, Fence, DefineScreen, DestroyScreen, DefineGmrfb, BlitToScreen, BlitToGmrfb, DefineGmr2, RemapGmr2}
 use Rattle.svga_cmd.specs.declared.remap.RemapData.{RemapData}

@@ -1,14 +1,11 @@
 -- Spellings in front of words: where two lists of words are one, the command at their front is one.
-use Rattle.std.proofs.Common.{◌≡◌, ℕ, ◌+◌, ◌≤◌, ◌<◌, List, [], ◌∷◌, ◌++◌, length, refl, ap, sym, subst, ◌∙◌, arith, inl, inr, length-append, append-nil, append_assoc}
-use Rattle.std.proofs.lemmas.List.{append_cancel_left}
+use Rattle.std.proofs.Common.{◌≡◌, ℕ, ◌≤◌, List, [], ◌∷◌, ◌++◌, length, refl, ap, sym, subst, ◌∙◌, arith, length-append, append-nil, append_assoc}
 use Rattle.svga_cmd.proofs.ReadingLaws.{same_command}
 use Rattle.svga_cmd.specs.Spelling.{Spells}
 use Rattle.svga_cmd.specs.declared.command.Command.{Command}
-use Rattle.svga_model.specs.Accepted.{IsPart, IsComplete}
 use Rattle.svga_model.specs.Lengths.{whole_length}
-use Rattle.svga_model.specs.Sentences.{Begins, IsBegun, SpellsSome}
-use Rattle.svga_model.proofs.GrammarSpelled.{spelled_complete, whole_length-spelled}
-use Rattle.svga_model.proofs.GrammarTable.{le_or_lt}
+use Rattle.svga_model.specs.Sentences.{IsBegun}
+use Rattle.svga_model.proofs.GrammarSpelled.{whole_length-spelled}
 
 -- the shorter of two fronts of one list is a front of the longer
 pub shorter_front : (xs ys a b : List ℕ) → xs ++ a ≡ ys ++ b → length xs ≤ length ys → (more : List ℕ) × (ys ≡ xs ++ more) × (a ≡ more ++ b)

@@ -1,5 +1,5 @@
 -- The table of refused words, read at one command or at one word.
-use Rattle.std.proofs.Common.{◌≡◌, ◌≢◌, ℕ, ◌≤◌, ◌<◌, ap, ◌∙◌, refl, None, arith, ◌⊎◌, inl, inr}
+use Rattle.std.proofs.Common.{◌≡◌, ◌≢◌, ℕ, ◌≤◌, ◌<◌, ap, ◌∙◌, None, arith, ◌⊎◌, inl, inr}
 use Rattle.std.proofs.lemmas.Bool.Decides.{nat_tests}
 use Rattle.svga_cmd.specs.Reading.{format_of}
 use Rattle.svga_cmd.specs.Words.{format_word}

@@ -1,4 +1,4 @@
-use Rattle.std.proofs.Common.{◌≡◌, ◌+◌, ◌-◌, length, arith, sym, ◌∙◌, slice_index, None, subst}
+use Rattle.std.proofs.Common.{◌-◌, length, arith, sym, ◌∙◌}
 use Rattle.svga_cmd.specs.Reading.{command_in}
 use Rattle.svga_decode.proofs.decoder.judge.Goals as goal
 use Rattle.svga_model.proofs.GrammarBegun.{part_begun}

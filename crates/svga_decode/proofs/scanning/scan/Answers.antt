@@ -1,6 +1,7 @@
-use Rattle.std.proofs.Common.{◌≡◌, ◌+◌, arith, length, refl, subst, sym, take}
+use Rattle.std.proofs.Common.{arith, subst, sym, take}
 use Rattle.std.proofs.lemmas.List.{take_more}
-use Rattle.svga_decode.proofs.ScanLaws.{nothing_read, ready_live, refused_scan}
+use Rattle.svga_decode.proofs.FeedLaws.{ready_live}
+use Rattle.svga_decode.proofs.ScanLaws.{nothing_read, refused_scan}
 use Rattle.svga_decode.proofs.scanning.scan.Goals as goal
 use Rattle.svga_decode.specs.Scans.{IsRead, IsScan}
 
