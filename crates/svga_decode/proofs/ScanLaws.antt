@@ -1,6 +1,5 @@
 -- How a scan goes on with one word, and how it ends.
 use Rattle.std.proofs.Common.{◌≡◌, ℕ, ◌+◌, ◌<◌, List, [], ◌∷◌, ◌++◌, length, take, drop, slice_index, refl, ap, sym, subst, ◌∙◌, arith, length-append, length-take}
-use Rattle.std.proofs.lemmas.List.{take-append-drop, drop_more}
 use Rattle.svga_cmd.specs.Spelling.{Spells}
 use Rattle.svga_cmd.specs.declared.command.Command.{Command}
 use Rattle.svga_decode.proofs.FeedLaws.{fed_refused, fed_whole, ready_ending, ready_front, ready_live, unready_ending, unready_more}
@@ -15,6 +14,7 @@ use Rattle.svga_model.specs.Endings as model
 use Rattle.svga_model.specs.Endings.{fence_after, last_fence}
 use Rattle.svga_model.specs.Progress.{HasCome}
 use Rattle.svga_model.specs.Sentences.{spelling_all}
+use Rattle.svga_model.proofs.GrammarBadPlaces.{split_at}
 use Rattle.svga_model.proofs.GrammarFronts.{HasCome-nil, last_fence-push}
 
 pub nothing_read : (r : Reading) → IsReady r → IsRead [] (record { commands = 0; fence = 0 }) r
@@ -45,10 +45,6 @@ torn_scan ws p r read unready =
         decoder = (more, read.1.come.words ∙ ap (λ fed. spelling_all read.0 ++ front_of fed r.words) more);
       },
     )
-
--- the list at a place
-split_at : (ws : List ℕ) (i : ℕ) → i < length ws → take i ws ++ slice_index ws i ∷ drop (i + 1) ws ≡ ws
-split_at ws i l = ap (λ t. take i ws ++ t) (sym (drop_more ws i 0 l)) ∙ take-append-drop i ws
 
 pub refused_scan : (ws : List ℕ) (i : ℕ) (p : Progress) (r new : Reading) (cause : Cause) → i < length ws → IsRead (take i ws) p r → IsAnswer (Refused cause) (front r ++ slice_index ws i ∷ []) → new.last ≡ Refused cause → IsScan ws (record { commands = p.commands; fence = p.fence; ending = ending.Refused i cause }) new
 refused_scan ws i p r new cause l read answer left = (

@@ -101,7 +101,7 @@ pub refused_as : (ws : List ℕ) (cs : List Command) (front : List ℕ) (word : 
 refused_as ws cs front word rest why come e = record { by_table = verdict_at-come ws cs front word rest come ∙ e }
 
 -- words and the one at place k
-split_at : (ws : List ℕ) (k : ℕ) → k < length ws → take k ws ++ slice_index ws k ∷ drop (k + 1) ws ≡ ws
+pub split_at : (ws : List ℕ) (k : ℕ) → k < length ws → take k ws ++ slice_index ws k ∷ drop (k + 1) ws ≡ ws
 split_at ws k l = ap (λ t. take k ws ++ t) (sym (drop_more ws k 0 l)) ∙ take-append-drop k ws
 
 -- what is shown of words that come one after another holds at place k
