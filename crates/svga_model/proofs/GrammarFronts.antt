@@ -92,7 +92,7 @@ pub refused_front : (ws : List ℕ) (cs : List Command) (front : List ℕ) (word
 refused_front ws cs front word rest come refused = none_behind (ws ++ word ∷ rest) (front ++ word ∷ rest) cs come.well_formed
     (ap (λ t. t ++ word ∷ rest) come.words ∙ append_assoc (spelling_all cs) front (word ∷ rest)) (refused_none front rest word come.begun refused)
 
-as_many : (cs ds : List Command) (a b : List ℕ) → All IsWellFormed cs → All IsWellFormed ds → spelling_all cs ++ a ≡ spelling_all ds ++ b → length cs ≡ length ds → cs ≡ ds
+pub as_many : (cs ds : List Command) (a b : List ℕ) → All IsWellFormed cs → All IsWellFormed ds → spelling_all cs ++ a ≡ spelling_all ds ++ b → length cs ≡ length ds → cs ≡ ds
 as_many [] [] a b wc wd e l = refl
 as_many [] (d ∷ ds) a b wc wd e l = absurd (omega arith)
 as_many (c ∷ cs) [] a b wc wd e l = absurd (omega arith)

@@ -1,0 +1,3 @@
+mod BytesLaws
+mod ListingLaws
+mod RunLaws

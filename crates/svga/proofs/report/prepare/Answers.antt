@@ -1,0 +1,24 @@
+use Rattle.std.proofs.Common.{◌≡◌, ◌≤◌, ℕ, length, arith, ap, sym, subst, ◌∙◌}
+use Rattle.svga.proofs.BytesLaws.{length-words_in}
+use Rattle.svga.specs.Bytes.{words_in}
+use Rattle.svga_decode.specs.Scans.{end_of}
+use Rattle.svga_model.specs.Endings.{IsEnding}
+use Rattle.svga.proofs.report.prepare.Goals as goal
+
+pub scan-scanned-requires-clause-few : goal.scan-scanned-requires-clause-few
+scan-scanned-requires-clause-few c = omega (arith, ap length c.deref.ensures.value, ap length (c.in_ok-words.ensures {u = tt}), length-words_in c.args.bytes.now, c.requires)
+
+pub returns : goal.returns
+returns c =
+    let words = c.in_ok-words.ensures {u = tt} in
+    let same = c.deref.ensures.value ∙ words in
+    let scanned = c.scan-scanned.ensures in (
+      scanned.0,
+      record {
+        words = words;
+        few = omega (arith, ap length words, length-words_in c.args.bytes.now, c.requires);
+        decoder = c.in_ok-new.ensures {u = tt};
+        fence = scanned.1.fence;
+        ending = record { of_words = end_of c.scan-scanned.result.ending; ending = subst (λ t. IsEnding t scanned.0 (end_of c.scan-scanned.result.ending)) same scanned.1.ending; torn = c.ending_of.ensures };
+      },
+    )

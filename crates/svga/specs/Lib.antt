@@ -1,0 +1,4 @@
+pub mod Bytes
+pub mod Due
+pub mod Listing
+pub mod Texts

@@ -1,0 +1,58 @@
+//! `svga words` lists the commands of the SVGA II FIFO that stand in its input.
+//!
+//! All that the program does is `top`, over any source and any sink. Here it gets the standard input and output.
+#![tactic(auto)]
+
+mod bytes;
+mod cause;
+mod ended;
+mod listing;
+mod report;
+mod top;
+
+use ended::Ended;
+use std::alloc::AllocError;
+use std::io::{BufWriter, Write};
+use std::process::ExitCode;
+use std::{env, io};
+use svga_io::{StdSink, StdSource};
+use top::top;
+
+/// How much text is gathered before it is written.
+const PIECE: usize = 64 * 1024;
+
+fn main(rt: HostRuntime) -> ExitCode {
+    ExitCode::from(run(&rt))
+}
+
+// The words after the program's name. One that is no UTF-8 text makes the command line one of no form.
+fn words_of_command_line(rt: &HostRuntime) -> Result<Vec<String>, AllocError> {
+    let mut words = Vec::new(rt.alloc());
+    match env::args(rt) {
+        Ok(arguments) => {
+            for argument in arguments.skip(1) {
+                words.push(argument)?;
+            }
+            Ok(words)
+        }
+        Err(error) if error.kind() == io::ErrorKind::OutOfMemory => Err(AllocError),
+        Err(_) => Ok(words),
+    }
+}
+
+// The status. Where there is no memory to begin with it is 6, and nothing is written.
+fn run(rt: &HostRuntime) -> u8 {
+    let Ok(words) = words_of_command_line(rt) else {
+        return 6;
+    };
+    let Ok(mut writer) = BufWriter::with_capacity(rt.alloc(), PIECE, io::writer(rt)) else {
+        return 6;
+    };
+    let mut source = StdSource::new(rt.reader());
+    let mut sink = StdSink::new(&mut writer);
+    let ended = top(rt.alloc(), &words, &mut source, &mut sink);
+    match writer.flush() {
+        Ok(()) => ended.status,
+        Err(_) => 5,
+    }
+}

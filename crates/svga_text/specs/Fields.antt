@@ -1,0 +1,10 @@
+-- The text of a field.
+use Rattle.std.specs.Prelude.{ℕ, List}
+use Rattle.std.specs.Fmt.{decimal, signed_decimal}
+use Rattle.svga_text.specs.declared.field.Field.{Field}
+use Rattle.svga_text.specs.declared.field.Field.TheVariants.{Unsigned, Signed, Name}
+
+abbrev pub field_text : Field → List ℕ
+field_text (Unsigned n) = decimal n
+field_text (Signed z) = signed_decimal z
+field_text (Name name) = name.now

@@ -1,0 +1,20 @@
+-- Lines of text, and those that aren't a command's.
+use Rattle.std.specs.Prelude.{ℕ, List, [], ◌∷◌, ◌++◌, codes}
+use Rattle.std.specs.Fmt.{decimal}
+use Rattle.std.specs.List.{flat_map}
+use Rattle.svga_text.specs.declared.line.Line.{Line}
+use Rattle.svga_text.specs.declared.line.Line.TheVariants.{Fence, RefusedWord, TornWord}
+
+-- further words of a line, each behind a space
+abbrev pub spaced : List (List ℕ) → List ℕ
+spaced words = flat_map (λ word. 32 ∷ word) words
+
+-- a line: how it begins, further words, and a line feed
+abbrev pub line : List ℕ → List (List ℕ) → List ℕ
+line begin words = begin ++ spaced words ++ 10 ∷ []
+
+-- the text of a line
+abbrev pub line_text : Line → List ℕ
+line_text (Fence value) = line (codes "fence") (decimal value ∷ [])
+line_text (RefusedWord word cause) = line (codes "refused at word") (decimal word ∷ cause.now ∷ [])
+line_text (TornWord word) = line (codes "torn at word") (decimal word ∷ [])
