@@ -1,10 +1,10 @@
 -- Calls on one sink in a row: what they did together.
-use Rattle.std.proofs.Common.{◌≡◌, ℕ, ◌+◌, ◌-◌, drop, length-drop, append_assoc, append-nil, ◌≤◌, List, [], ◌++◌, length, take, sym, ◌∙◌, ap, subst, arith, length-append}
+use Rattle.std.proofs.Common.{Result, Ok, Err, OnErr, ◌≡◌, ℕ, ◌+◌, ◌≤◌, List, [], ◌++◌, length, take, sym, subst, arith, length-append}
 use Rattle.std.proofs.Math.Seq.{take-append-add}
-use Rattle.std.proofs.lemmas.List.{take-append-le, take-append-drop, take_all}
+use Rattle.std.proofs.lemmas.List.{take-append-le}
 use Rattle.std.proofs.KnownBytes.{Appends-nil, Appends-trans}
-use Rattle.std.specs.Prelude.{Option, None, Some}
-use Rattle.std.specs.Io.KnownBytes.{Appends, Keeps}
+use Rattle.std.specs.Prelude.{Option}
+use Rattle.std.specs.Io.KnownBytes.{Appends}
 use Rattle.svga_io.specs.Rising.{Rises}
 use Rattle.svga_io.specs.Growing.{AppendsPrefix, Grows, GrowsByPrefix}
 
@@ -32,17 +32,6 @@ AppendsPrefix-then before between now xs ys whole (n, within, appended) = (
   subst (Appends before now) (sym (take-append-add xs ys n)) (Appends-trans before between now xs (take n ys) whole appended),
 )
 
--- what has been written and what is left are all the bytes, also when n more are written
-pub split_on : (bytes done rest : List ℕ) (n : ℕ) → bytes ≡ done ++ rest → bytes ≡ (done ++ take n rest) ++ take (length rest - n) (drop n rest)
-split_on bytes done rest n is = is ∙ ap (λ t. done ++ t) (sym (take-append-drop n rest)) ∙ sym (append_assoc done (take n rest) (drop n rest))
-    ∙ ap (λ t. (done ++ take n rest) ++ t) (sym (take_all (length rest - n) (drop n rest) (omega (arith, length-drop n rest))))
-
--- known bytes that stay grow by nothing
-pub Appends-Keeps : (before now : Option (List ℕ)) → Keeps before now → Appends before now []
-Appends-Keeps None now kept = tt
-Appends-Keeps (Some xs) None kept = kept
-Appends-Keeps (Some xs) (Some ys) kept = kept ∙ sym (append-nil xs)
-
 module _ {K : Type 0} {held : K → Option (List ℕ)} {faults : K → ℕ} where
   -- no call yet
   pub Grows-nil : (sink : K) → Grows held faults sink sink []
@@ -68,3 +57,23 @@ module _ {K : Type 0} {held : K → Option (List ℕ)} {faults : K → ℕ} wher
     appended = AppendsPrefix-then (held before) (held between) (held now) xs ys first.appended second.appended;
     cause = Rises-then (faults before) (faults between) (faults now) first.steady second.cause;
   }
+
+  -- the answer of a call that hands a fault on
+  pub on_fault : {T E : Type 0} {before now : K} {xs : List ℕ} (result : Result T E) → GrowsByPrefix held faults before now xs → OnErr result (GrowsByPrefix held faults before now xs)
+  on_fault (Ok t) fault = tt
+  on_fault (Err e) fault = fault
+
+  -- a write that ended well, and then one whose answer is handed on as it is
+  pub on_fault_then : {T E : Type 0} {before between : K} {xs : List ℕ} (result : Result T E) → Grows held faults before between xs → (now : K) (ys : List ℕ) → OnErr result (GrowsByPrefix held faults between now ys)
+      → OnErr result (GrowsByPrefix held faults before now (xs ++ ys))
+  on_fault_then (Ok t) first now ys last = tt
+  on_fault_then (Err e) first now ys last = GrowsByPrefix-then first last
+
+  -- one that gave up in the middle of what was to be written: xs was written, and zs was still to come
+  pub GrowsByPrefix-within : {before between now : K} {all xs ys : List ℕ} (zs : List ℕ) → all ≡ xs ++ ys ++ zs → Grows held faults before between xs → GrowsByPrefix held faults between now ys
+      → GrowsByPrefix held faults before now all
+  GrowsByPrefix-within {before} {between} {now} zs whole first second =
+      subst (GrowsByPrefix held faults before now) (sym whole) (GrowsByPrefix-first zs (GrowsByPrefix-then first second))
+
+-- for `search` and `grind`: calls on one sink in a row
+pub ruleset chains = (Grows-nil, Grows-then, GrowsByPrefix-first, GrowsByPrefix-then, on_fault, on_fault_then, Rises-first, Rises-then)

@@ -1,5 +1,5 @@
 -- What contracts see of the sources and sinks in memory.
-use Rattle.std.specs.Prelude.{ℕ, ◌-◌, List, length, min, Bool, ◌==◌, nat_lt, ◌&&◌, if◌then◌else◌}
+use Rattle.std.specs.Prelude.{ℕ, ◌-◌, List, length, min, ◌==◌, nat_lt, ◌&&◌, if◌then◌else◌}
 use Rattle.svga_io.specs.Rising.{one_more}
 
 -- A source without faults: the bytes left, and how many a call gives at most.

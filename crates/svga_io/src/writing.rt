@@ -2,7 +2,7 @@
 ghost use Rattle.std.specs.Prelude.{◌≤◌, IsSome, OnOk, OnErr};
 ghost use Rattle.svga_io.specs.Growing.{Grows, GrowsByPrefix};
 
-use crate::{Failed, Sink, WriteFault};
+use crate::{Sink, WriteFault};
 
 /// Writes all the bytes, in as many calls as the sink needs. It gives up at the first fault. It takes no memory.
 pub fn write_all<K: Sink>(sink: &mut K, bytes: &[u8]) -> Result<(), WriteFault>
@@ -13,11 +13,11 @@ pub fn write_all<K: Sink>(sink: &mut K, bytes: &[u8]) -> Result<(), WriteFault>
 {
     let mut rest = bytes;
     while !rest.is_empty() {
-        match sink.put(rest) {
-            Ok(0) => return Err(WriteFault),
-            Ok(n) => rest = &rest[n..],
-            Err(Failed) => return Err(WriteFault),
+        let n = sink.put(rest)?;
+        if n == 0 {
+            return Err(WriteFault);
         }
+        rest = &rest[n..];
     }
     Ok(())
 }

@@ -1,28 +1,29 @@
-use Rattle.std.proofs.Common.{◌≡◌, ◌==◌, ◌<◌, ℕ, false, ◌++◌, length, take, sym, subst, arith}
-use Rattle.std.proofs.lemmas.Bool.Decides.{nat_tests}
-use Rattle.std.specs.Io.KnownBytes.{Appends}
-use Rattle.svga_io.proofs.Chains.{Appends-Keeps, Grows-then, GrowsByPrefix-then, split_on}
-use Rattle.svga_io.specs.Growing.{GrowsByPrefix}
+use Rattle.std.proofs.Common.{[], append-nil, sym, ◌∙◌, ◌++◌, take, rules}
+use Rattle.svga_io.proofs.Chains.{Grows-then, GrowsByPrefix-within, on_fault}
+use Rattle.svga_io.proofs.Pieces.{one_piece_more, AppendsPrefix-kept}
 use Rattle.svga_io.proofs.writing.write_all.Goals as goal
 
-some_left : (n : ℕ) → false ≡ (n == 0) → 0 < n
-some_left n left = grind (arith, nat_tests)
-
 pub loop-rest-preserved : goal.loop-rest-preserved
-loop-rest-preserved g c = record {
-  done = c.loop-rest.invariant.done ++ take c.in-Ok.n c.loop-rest.rest.now;
-  whole = split_on c.args.bytes.now c.loop-rest.invariant.done c.loop-rest.rest.now c.in-Ok.n c.loop-rest.invariant.whole;
-  grown = Grows-then c.loop-rest.invariant.grown (record { appended = c.in-Ok.ensures.appended; steady = c.in-Ok.ensures.steady });
-}
+loop-rest-preserved g c =
+    let before = c.loop-rest.invariant in
+    record {
+      done = before.done ++ take c.in_ok-n.n c.loop-rest.rest.now;
+      whole = one_piece_more _ before.done c.loop-rest.rest.now c.in_ok-n.n _ (search rules) before.whole;
+      grown = Grows-then before.grown (record { appended = c.in_ok-n.ensures.appended; steady = c.put.ensures.steady });
+    }
 
--- the sink took nothing, though there was something to take
-pub returns-in-Ok-eq0-clause-fault : goal.returns-in-Ok-eq0-clause-fault
-returns-in-Ok-eq0-clause-fault g c = subst (GrowsByPrefix g.K.Sink.held g.K.Sink.faults c.args.sink.now c.put.new.self) (sym c.loop-rest.invariant.whole)
-    (GrowsByPrefix-then c.loop-rest.invariant.grown (record {
-      appended = (0, omega arith, subst (λ n. Appends (g.K.Sink.held c.loop-rest.sink) (g.K.Sink.held c.put.new.self) (take n c.loop-rest.rest.now)) c.in-Ok-eq0.field-0-test c.in-Ok-eq0.ensures.appended);
-      cause = c.in-Ok-eq0.ensures.nothing c.in-Ok-eq0.field-0-test (some_left (length c.loop-rest.rest.now) (c.loop-rest-test.ensures {u = tt}));
+pub returns-in_err-n-clause-fault : goal.returns-in_err-n-clause-fault
+returns-in_err-n-clause-fault g c =
+    let before = c.loop-rest.invariant in
+    on_fault _ (GrowsByPrefix-within [] (before.whole ∙ sym (append-nil _)) before.grown (record {
+      appended = AppendsPrefix-kept _ _ _ c.in_err-n.ensures.kept;
+      cause = c.in_err-n.ensures.cause;
     }))
 
-pub returns-in-Err-clause-fault : goal.returns-in-Err-clause-fault
-returns-in-Err-clause-fault g c = subst (GrowsByPrefix g.K.Sink.held g.K.Sink.faults c.args.sink.now c.put.new.self) (sym c.loop-rest.invariant.whole)
-    (GrowsByPrefix-then c.loop-rest.invariant.grown (record { appended = (0, omega arith, Appends-Keeps _ _ c.in-Err.ensures.kept); cause = c.in-Err.ensures.cause }))
+pub returns-then-n-eq0-clause-fault : goal.returns-then-n-eq0-clause-fault
+returns-then-n-eq0-clause-fault g c =
+    let before = c.loop-rest.invariant in
+    GrowsByPrefix-within [] (before.whole ∙ sym (append-nil _)) before.grown (record {
+      appended = (c.in_ok-n.n, search rules, c.in_ok-n.ensures.appended);
+      cause = c.in_ok-n.ensures.nothing (search rules) (search rules);
+    })
