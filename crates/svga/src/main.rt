@@ -8,6 +8,8 @@ mod cause;
 mod ended;
 mod listing;
 mod report;
+#[cfg(test)]
+mod tests;
 mod top;
 
 use ended::Ended;

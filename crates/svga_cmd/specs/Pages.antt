@@ -1,5 +1,5 @@
 -- Page keys in order, and memories: the bytes of pages by their keys.
-use Rattle.std.specs.Prelude.{ℕ, ◌<◌, List, Option, IsSome}
+use Rattle.std.specs.Prelude.{◌≡◌, ◌↔◌, ℕ, ◌<◌, All, List, length, Option, IfSome, IsSome}
 use Rattle.std.specs.FinMap as map
 use Rattle.std.specs.Ordering.{nat_cmp, ordering_then}
 use Rattle.std.specs.declared.cmp.Ordering.{Ordering}
@@ -35,3 +35,13 @@ page_at m key = map.get m key
 
 abbrev pub HasPage : Memory → PageKey → Type 0
 HasPage m key = IsSome (page_at m key)
+
+-- 4,096 bytes
+pub record IsPage (bytes : List ℕ) : Type 0 where
+  pub length_is : length bytes ≡ 4096
+  pub each : All (λ byte. byte < 256) bytes
+
+-- a memory of a device has a page for each of its keys, and no other
+pub record IsMemoryOf (l : Limits) (m : Memory) : Type 0 where
+  pub keys : (key : PageKey) → HasPage m key ↔ IsKey l key
+  pub pages : (key : PageKey) → IfSome (page_at m key) IsPage

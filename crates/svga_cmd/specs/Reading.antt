@@ -1,4 +1,4 @@
--- Spelling undone: the command that stands in these words, if they spell one. Of other words it says nothing.
+-- Spelling undone: the command that these words spell. What it gives for words that spell none is no answer.
 use Rattle.std.specs.Prelude.{ℕ, ℤ, List, if◌then◌else◌, ◌==◌, slice_index, drop, Option, Some, None}
 use Rattle.std.specs.Int.{cast_signed, w32}
 use Rattle.svga_cmd.specs.declared.blit.Blit.{Blit}

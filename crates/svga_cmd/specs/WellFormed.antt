@@ -17,7 +17,8 @@ HasEntries (SinglePpn64 low high) pages = Unit {0}
 HasEntries (ViaGmr32 pointer) pages = Unit {0}
 HasEntries (ViaGmr64 pointer) pages = Unit {0}
 
--- each signed number is one of 32 bits, as it is in every value of the code
+-- Each signed number is one of 32 bits, as in every value of the code: of others, two could have one word. A number
+-- without a sign is its own word.
 pub record HasSignedCorner (d : ScreenDef) : Type 0 where
   pub x : FitsSigned w32 d.x
   pub y : FitsSigned w32 d.y

@@ -12,7 +12,7 @@ use Rattle.svga_cmd.specs.declared.screen.Backing.{Backing}
 abbrev pub word_of : ℤ → ℕ
 word_of z = cast_unsigned w32 z
 
--- a pixel format: bits per pixel in bits 0 to 7, colour depth in bits 8 to 15
+-- a pixel format: its lowest byte counts the bits of a pixel, the next those that are colour
 abbrev pub format_word : Format → ℕ
 format_word Bgrx32 = 0x1820
 format_word Bgr24 = 0x1818

@@ -23,6 +23,13 @@ impl PageList {
         PageList { numbers: words }
     }
 
+    /// Gives the words back, and takes no memory.
+    pub fn into_words(self) -> Vec<u32>
+        ensures { result.items ≡ self }
+    {
+        self.numbers
+    }
+
     /// The words.
     pub fn words(&self) -> &[u32]
         ensures { result.now ≡ self.now }

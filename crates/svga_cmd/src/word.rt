@@ -11,10 +11,11 @@ use crate::screen::ScreenDef;
 use arrayvec::ArrayVec;
 use bitflags::Flags;
 
-/// How many words the command's spelling has: 131,077 at most.
+/// How many words the command's spelling has. The longest is a remap of 65,536 pages by numbers of 64 bits.
 pub fn word_count(command: &Command) -> u32
     requires { IsWellFormed command.now }
-    ensures { result ≡ length (spelling command.now) }
+    ensures count { result ≡ length (spelling command.now) }
+    ensures most { result ≤ 131077 }
 {
     match command {
         Command::Update {

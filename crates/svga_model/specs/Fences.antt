@@ -14,7 +14,7 @@ number_of_fence first k = 1 + (first - 1 + k) % (2 ^ 32 - 1)
 abbrev pub register_after : ℕ → ℕ → ℕ
 register_after first fences = if fences == 0 then first - 1 else number_of_fence first (fences - 1)
 
--- Fence k has passed where so many fences were seen. This is an order of places.
+-- Fence k has passed where more than k fences were seen, whatever their numbers are.
 abbrev pub HasPassed : ℕ → ℕ → Type 0
 HasPassed seen k = k < seen
 

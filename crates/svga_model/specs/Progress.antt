@@ -4,7 +4,8 @@ use Rattle.svga_cmd.specs.WellFormed.{IsWellFormed}
 use Rattle.svga_cmd.specs.declared.command.Command.{Command}
 use Rattle.svga_model.specs.Sentences.{IsBegun, spelling_all}
 
--- the words are these whole commands and, behind them, the words of one that has begun; these are none between two commands
+-- The words are these whole commands and, behind them, the words of one that has begun. Between two commands the latter
+-- are the empty list.
 pub record HasCome (ws : List ℕ) (cs : List Command) (front : List ℕ) : Type 0 where
   pub well_formed : All IsWellFormed cs
   pub words : ws ≡ spelling_all cs ++ front
