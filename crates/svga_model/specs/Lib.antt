@@ -1,3 +1,4 @@
+pub mod Colours
 pub mod Endings
 pub mod RefusedWords
 pub mod Sentences

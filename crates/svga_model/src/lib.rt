@@ -2,3 +2,7 @@
 //!
 //! It runs nothing. A law is the contract of a public function with an empty body.
 #![tactic(auto)]
+
+mod pixels;
+
+pub use pixels::narrowed_colour;
