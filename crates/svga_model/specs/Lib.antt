@@ -1,4 +1,10 @@
+pub mod Codes
 pub mod Colours
 pub mod Endings
 pub mod RefusedWords
+pub mod RegionBytes
+pub mod Regions
 pub mod Sentences
+pub mod Standing
+pub mod Tabulated
+pub mod Walks
