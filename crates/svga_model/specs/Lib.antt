@@ -1,9 +1,12 @@
+pub mod BlitExamples
+pub mod BlitPixels
 pub mod Codes
 pub mod Colours
 pub mod Endings
 pub mod RefusedWords
 pub mod RegionBytes
 pub mod Regions
+pub mod Screens
 pub mod Sentences
 pub mod Standing
 pub mod Tabulated

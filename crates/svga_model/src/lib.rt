@@ -5,4 +5,4 @@
 
 mod pixels;
 
-pub use pixels::narrowed_colour;
+pub use pixels::{narrowed_colour, pixels_at_a_corner, pixels_of_two_screens};
