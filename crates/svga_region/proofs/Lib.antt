@@ -1,0 +1,5 @@
+pub mod DefineLaws
+pub mod EntryLaws
+pub mod ListLaws
+pub mod PlaceLaws
+pub mod PutLaws

@@ -1,0 +1,4 @@
+pub mod Chains
+pub mod Conditions
+pub mod Kept
+pub mod RegionSet
