@@ -1,7 +1,7 @@
 -- Lists with other values from an offset on, and lists in a list.
-use Rattle.std.proofs.Common.{◌≡◌, ◌≢◌, ℕ, suc, ◌+◌, ◌-◌, ◌<◌, ◌≤◌, refl, sym, ap, ◌∙◌, List, [], ◌∷◌, ◌++◌, length, map, take, drop, slice_index_or, slice_set, arith, add-one, append_assoc, length-append, length-take, length-drop, Bool, true, false, ◌||◌, Option, Some, None, get_or-set_same, append-nil}
+use Rattle.std.proofs.Common.{◌≡◌, ◌≢◌, ℕ, suc, ◌+◌, ◌-◌, ◌<◌, ◌≤◌, refl, sym, ap, ◌∙◌, List, [], ◌∷◌, ◌++◌, length, map, take, drop, slice_index_or, slice_set, arith, add-one, append_assoc, length-append, length-take, length-drop, Bool, true, false, ◌||◌, Option, Some, None, get_or-set_same, append-nil, replicate}
 use Rattle.std.proofs.Math.Seq.{take-append_seam, drop-append-add, drop-cons, set-append_seam}
-use Rattle.std.proofs.lemmas.List.{set-set, set-get_or, drop-drop, drop_all, take-append-drop}
+use Rattle.std.proofs.lemmas.List.{set-set, set-get_or, length-replicate, drop-drop, drop_all, take-append-drop}
 use Rattle.std.specs.List.{list_any}
 use Rattle.svga_cmd.specs.declared.page.PageKey.{PageKey}
 use Rattle.svga_model.specs.Regions.{Places, remapped}
@@ -73,3 +73,11 @@ pub length_put : (initial lists : List Places) (slot at : ℕ) (ys : Places) →
     → lists ≡ slice_set initial slot (remapped (slice_index_or initial slot []) at ys) → length (slice_index_or lists slot []) ≡ length (slice_index_or initial slot [])
 length_put initial lists slot at ys within fits e = ap (λ ls. length (slice_index_or ls slot [])) e
     ∙ ap length (get_or-set_same initial slot (remapped (slice_index_or initial slot []) at ys) [] within) ∙ length-remapped (slice_index_or initial slot []) at ys fits
+
+-- a list that is made anew and filled from its front
+pub put_whole : (lists : List Places) (slot n : ℕ) (news : Places) → slot < length lists → length news ≡ n
+    → slice_set (slice_set lists slot (replicate n None)) slot (remapped (slice_index_or (slice_set lists slot (replicate n None)) slot []) 0 news) ≡ slice_set lists slot news
+put_whole lists slot n news within many =
+    set-set lists slot (replicate n None) (remapped (slice_index_or (slice_set lists slot (replicate n None)) slot []) 0 news)
+    ∙ ap (λ xs. slice_set lists slot (remapped xs 0 news)) (get_or-set_same lists slot (replicate n None) [] within)
+    ∙ ap (slice_set lists slot) (remapped_all (replicate n None) news (omega (arith, length-replicate {A = Option PageKey} n None)))

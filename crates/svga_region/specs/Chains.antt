@@ -3,8 +3,15 @@ use Rattle.std.specs.Prelude.{◌≡◌, ℕ, ◌-◌, ◌<◌, List, [], ◌∷
 use Rattle.svga_cmd.specs.declared.fault.Fault.{Fault}
 use Rattle.svga_model.specs.Walks.{Tables, TablePlace, places_from, entered, outcome_after}
 use Rattle.svga_region.specs.RegionSet.{Chain}
+use Rattle.svga_region.specs.Kept.{chain_of}
+use Rattle.svga_region.specs.declared.chain.Reading.{Reading}
+use Rattle.svga_region.specs.declared.descriptor.Descriptor.{Descriptor as Kept}
 use Rattle.svga_region.specs.declared.chain.ChainNext.{ChainNext}
 use Rattle.svga_region.specs.declared.chain.ChainNext.TheVariants.{Page, Whole}
+
+-- a chain of which nothing is read yet
+abbrev pub begun_chain : ℕ → ℕ → Chain
+begun_chain id first = record { id = id; count = 0; pages = []; wants = Some first }
 
 -- the places that the walk has still to come to
 abbrev pub places_left : ℕ → Tables → Chain → List TablePlace
@@ -47,3 +54,17 @@ abbrev pub IsAnswer : ℕ → Tables → ℕ → Chain → Result ChainNext Faul
 IsAnswer guest tables p c (Ok (Page q)) new = IsSomeAnd new (λ d. GoesOn guest tables p c q d)
 IsAnswer guest tables p c (Ok Whole) new = IsSomeAnd new (λ d. Ends guest tables p c d)
 IsAnswer guest tables p c (Err f) new = Fails guest tables p c f new
+
+-- the same for the chain that is begun, the table page that it wants, and every memory that has these bytes there
+abbrev pub Answers : ℕ → Option Chain → List ℕ → Result ChainNext Fault → Option Chain → Type 0
+Answers guest old bytes answer new = (c : Chain) (p : ℕ) (tables : Tables) → old ≡ Some c → c.wants ≡ Some p → tables p ≡ bytes → IsAnswer guest tables p c answer new
+
+-- what is wanted after table page p: another one, or none at the end
+abbrev pub Continues : ℕ → Tables → ℕ → Chain → Option ℕ → Chain → Type 0
+Continues guest tables p c (Some q) d = GoesOn guest tables p c q d
+Continues guest tables p c None d = Ends guest tables p c d
+
+-- the same for what is kept of a chain
+abbrev pub ReadsTable : ℕ → Tables → ℕ → Chain → Result Reading Fault → List Kept → Type 0
+ReadsTable guest tables p c (Ok r) runs = Continues guest tables p c r.wants (chain_of runs r)
+ReadsTable guest tables p c (Err f) runs = Fails guest tables p c f None

@@ -1,9 +1,9 @@
 -- How the regions and the chain are kept.
-use Rattle.std.specs.Prelude.{◌≡◌, ℕ, ◌+◌, ◌≤◌, ◌<◌, List, [], length, take, sum_by, slice_index_or, Bool, false, if◌then◌else◌, Option, Some, None, All, IfSome}
-use Rattle.std.specs.List.{flat_map}
+use Rattle.std.specs.Prelude.{◌≡◌, ℕ, ◌+◌, ◌≤◌, ◌<◌, List, [], length, map as map_list, take, sum_by, slice_index_or, Bool, false, if◌then◌else◌, Option, Some, None, All, IfSome}
+use Rattle.std.specs.List.{flat_map, range_with_len}
 use Rattle.svga_model.specs.Regions.{Places, Regions}
 use Rattle.svga_model.specs.Tabulated.{tabulated}
-use Rattle.svga_model.specs.Walks.{Descriptor, run_pages}
+use Rattle.svga_model.specs.Walks.{Descriptor, descriptor_in, run_pages}
 use Rattle.svga_region.specs.declared.chain.Reading.{Reading}
 use Rattle.svga_region.specs.declared.descriptor.Descriptor.{Descriptor as Kept}
 use Rattle.svga_region.specs.RegionSet.{Chain}
@@ -32,6 +32,10 @@ as_descriptor k = record { page = k.page; count = k.count }
 -- the pages that the descriptors list, in order
 abbrev pub kept_pages : List Kept → List ℕ
 kept_pages runs = flat_map (λ k. run_pages (as_descriptor k)) runs
+
+-- the pages that the first k descriptors of a table page list
+abbrev pub table_pages : List ℕ → ℕ → List ℕ
+table_pages bytes k = flat_map run_pages (map_list (λ j. descriptor_in bytes j) (range_with_len 0 k))
 
 -- the run ends at the most guest pages there can be
 abbrev pub IsShortRun : Kept → Type 0

@@ -9,6 +9,7 @@ mod descriptor;
 mod entries;
 mod placing;
 mod regions;
+mod table;
 
 pub use chain::ChainNext;
 pub use regions::Regions;

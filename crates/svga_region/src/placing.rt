@@ -1,5 +1,5 @@
 //! Putting guest pages into the list of a region.
-ghost use Rattle.std.specs.Prelude.{◌≡◌, ◌+◌, ◌≤◌, ◌<◌, ◌^◌, false, nat_le, length, slice_set, All, slice_range, sum_by};
+ghost use Rattle.std.specs.Prelude.{◌≡◌, ◌+◌, ◌*◌, ◌≤◌, ◌<◌, ◌^◌, false, nat_le, length, slice_set, All, slice_range, sum_by};
 ghost use Rattle.std.specs.List.{list_any, range_with_len};
 ghost use Rattle.svga_cmd.specs.Lent.{entries_of};
 ghost use Rattle.svga_cmd.specs.WellFormed.{HasEntries};
@@ -75,7 +75,8 @@ pub fn put_runs(lists: &mut Rows<Option<PageKey>>, slot: usize, runs: &[Descript
 pub fn listed_count(runs: &[Descriptor]) -> usize
     requires few { length runs.now ≤ 4096 }
     requires short { All IsShortRun runs.now }
-    ensures { result ≡ length (kept_pages runs.now) }
+    ensures count { result ≡ length (kept_pages runs.now) }
+    ensures small { result ≤ 16384 * 4096 }
 {
     let mut count = 0;
     for run in runs {

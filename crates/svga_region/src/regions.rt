@@ -9,15 +9,19 @@ ghost use Rattle.svga_cmd.specs.declared.fault.Fault.TheVariants as fault;
 ghost use Rattle.svga_model.specs.RegionBytes.{byte_tests, byte_location, is_beyond, is_unmapped, located};
 ghost use Rattle.svga_model.specs.Regions.{places_of, define_tests, with_region, remap_tests, with_remap, named_pages, range_pages};
 ghost use Rattle.svga_model.specs.Standing.{first_standing};
-ghost use Rattle.svga_region.specs.Conditions.{AreNamed, HasPlace};
+ghost use Rattle.svga_model.specs.Walks.{start_tests, list_tests, with_pages};
+ghost use Rattle.svga_region.specs.Chains.{Answers, begun_chain};
+ghost use Rattle.svga_region.specs.RegionSet.{Chain};
+ghost use Rattle.svga_region.specs.Conditions.{AreNamed, HasPlace, IsBegun, IsWhole};
 
-use crate::chain::Reading;
+use crate::chain::{ChainNext, Reading, next_of};
 use crate::descriptor::Descriptor;
 use crate::entries::name_bad_page;
-use crate::placing::put_entries;
+use crate::placing::{listed_count, put_entries, put_runs};
+use crate::table::read_table;
 use std::alloc::{AllocError, Global};
 use std::marker::Model;
-use svga_cmd::{EntriesRef, Fault, PageKey};
+use svga_cmd::{EntriesRef, Fault, Page, PageKey};
 use svga_rows::Rows;
 
 /// All regions, and the chain that is being read, if one is.
@@ -165,6 +169,68 @@ impl Regions {
         } else {
             locate_in(self.lists.list(id as usize), byte)
         }
+    }
+
+    /// Begins a chain of descriptors for a region, with its first table page. A chain that was begun before is dropped.
+    pub fn chain_start(&mut self, id: u32, first: u32) -> Result<(), Fault>
+        requires { first ≢ 0 }
+        ensures fault { result_err result ≡ first_standing (start_tests self.old.guest id first) }
+        ensures ok { OnOk result (self.new ≡ record self.old { chain = Some (begun_chain id first) }) }
+        ensures err { OnErr result (self.new ≡ self.old) }
+    {
+        if id > 4095 {
+            return Err(Fault::RegionId);
+        }
+        if first >= self.guest {
+            return Err(Fault::BadPage);
+        }
+        self.chain = Some(Reading {
+            id,
+            count: 0,
+            wants: Some(first),
+        });
+        Ok(())
+    }
+
+    /// Reads the table page that the chain wants. After a refusal the chain is over.
+    pub fn chain_page(&mut self, page: &Page) -> Result<ChainNext, Fault>
+        requires { IsBegun self.old.chain }
+        ensures answer { Answers self.old.guest self.old.chain page.now result self.new.chain }
+        ensures kept { self.new ≡ record self.old { chain = self.new.chain } }
+    {
+        let reading = self.chain.unwrap();
+        match read_table(page.bytes(), self.guest, &mut self.runs, reading) {
+            Ok(read) => {
+                self.chain = Some(read);
+                Ok(next_of(read))
+            }
+            Err(fault) => {
+                self.chain = None;
+                Err(fault)
+            }
+        }
+    }
+
+    /// Makes the region of the whole chain's list. The chain is over, also after a refusal.
+    pub fn chain_finish(&mut self) -> Result<(), Fault>
+        requires { IsWhole self.old.chain }
+        ensures fault { (c : Chain) → self.old.chain ≡ Some c → result_err result ≡ first_standing (list_tests self.old.regions c.id (length c.pages)) }
+        ensures ok { OnOk result ((c : Chain) → self.old.chain ≡ Some c → self.new ≡ record self.old { regions = with_pages self.old.regions c.id c.pages; chain = None }) }
+        ensures err { OnErr result (self.new ≡ record self.old { chain = None }) }
+    {
+        let reading = self.chain.unwrap();
+        self.chain = None;
+        let slot = reading.id as usize;
+        let runs = &self.runs[..reading.count];
+        let pages = listed_count(runs);
+        let rest = self.lists.total() - self.lists.list(slot).len();
+        if rest + pages > 65536 {
+            return Err(Fault::PlaceLimit);
+        }
+        self.lists.replace(slot, pages, None);
+        put_runs(&mut self.lists, slot, runs);
+        self.defined[slot] = true;
+        Ok(())
     }
 }
 
