@@ -117,6 +117,10 @@ outcome_after guest tables count pages (at ∷ places) =
 abbrev pub walk_outcome : ℕ → Tables → ℕ → Result (List ℕ) Fault
 walk_outcome guest tables first = if nat_le guest first then Err fault.BadPage else outcome_after guest tables 0 [] (walk guest tables first)
 
+-- when a chain can't be begun
+abbrev pub start_tests : ℕ → ℕ → ℕ → List (Bool × Fault)
+start_tests guest id first = (nat_lt 4095 id, fault.RegionId) ∷ (nat_le guest first, fault.BadPage) ∷ []
+
 -- when a list of so many places is too much for a region
 abbrev pub list_tests : Regions → ℕ → ℕ → List (Bool × Fault)
 list_tests regions id pages = (nat_lt 65536 (count_with regions id pages), fault.PlaceLimit) ∷ []
