@@ -11,7 +11,7 @@ import time
 
 PROGRAM = pathlib.Path(__file__).parent.parent / "crates/bench_pixels/out/bench_pixels"
 PIXELS = 4096
-ROUNDS = 20000
+ROUNDS = 200000
 TURNS = 5
 
 

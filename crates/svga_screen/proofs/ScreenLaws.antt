@@ -3,7 +3,7 @@ use Rattle.std.proofs.Common.{◌≡◌, ◌≢◌, ℕ, suc, ◌+◌, ◌-◌, 
 use Rattle.std.proofs.lemmas.Bool.{cases_lt}
 use Rattle.std.proofs.lemmas.List.Elements.{All-append, All-nil, All-take, All-drop, All-replicate, All-from_get_or}
 use Rattle.std.proofs.lemmas.List.Sums.{sum_by-cons, sum_by-set, get_or-le-sum_by}
-use Rattle.std.proofs.lemmas.List.{length-replicate, length-set, get_or_default, set-get_or}
+use Rattle.std.proofs.lemmas.List.{length-replicate, length-set, set-get_or}
 use Rattle.std.specs.Cmp.{nat_cmp_total}
 use Rattle.std.specs.FinMap as map
 use Rattle.std.specs.FinMap.{nat_cmp-IsAntisymmetric}
@@ -33,10 +33,6 @@ definitions_of-screens_from defs pictures id l = ap (option_map (λ s. s.def)) (
 
 pub definitions_of-screens_from_past : (defs : List (Option ScreenDef)) (pictures : List (List ℕ)) (id : ℕ) → 16 ≤ id → definitions_of (screens_from defs pictures) id ≡ None
 definitions_of-screens_from_past defs pictures id l = ap (option_map (λ s. s.def)) (get-screens_from_past defs pictures id l)
-
--- what an index reads
-pub read_definition : (defs : List (Option ScreenDef)) (i : ℕ) (x : Option ScreenDef) → i < length defs → x ≡ slice_index_or defs i x → slice_index_or defs i None ≡ x
-read_definition defs i x l e = sym (e ∙ get_or_default defs i x None l)
 
 -- the pixels of a slot are as many as its definition says
 pub count_of-slot : (id : ℕ) (o : Option ScreenDef) (px : List ℕ) → IsSlot id o px → length px ≡ pixels_of o
