@@ -8,4 +8,5 @@ pub mod GrammarLengths
 pub mod GrammarPrefixes
 pub mod GrammarSpelled
 pub mod GrammarTable
+pub mod TabulatedLaws
 pub mod Turns

@@ -6,7 +6,9 @@
 mod addresses;
 mod fences;
 mod grammar;
+mod pixels;
 
 pub use addresses::one_turn;
 pub use fences::fence_order;
 pub use grammar::{one_ending, refused_word, viable_words};
+pub use pixels::{narrowed_colour, pixels_at_a_corner, pixels_of_two_screens};

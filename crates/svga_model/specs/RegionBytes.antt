@@ -1,0 +1,39 @@
+-- Bytes of a region: byte i is byte i mod 4096 of the page at place i div 4096.
+use Rattle.std.specs.Prelude.{ℕ, ◌*◌, ◌/◌, ◌%◌, List, [], ◌∷◌, length, slice_index_or, Bool, false, nat_lt, nat_le, ◌==◌, ◌&&◌, not, is_none, Option, Some, None, option_map, option_and_then}
+use Rattle.svga_cmd.specs.declared.fault.Fault.{Fault}
+use Rattle.svga_cmd.specs.declared.fault.Fault.TheVariants as fault
+use Rattle.svga_cmd.specs.declared.page.PageKey.{PageKey}
+use Rattle.svga_model.specs.Regions.{Places, Regions, frame_region, defined_places, places_of}
+
+-- byte i lies at or past the end
+abbrev pub is_beyond : Places → ℕ → Bool
+is_beyond places i = nat_le (4096 * length places) i
+
+-- the page that byte i lies on, if it lies on one
+abbrev pub page_of_byte : Places → ℕ → Option PageKey
+page_of_byte places i = slice_index_or places (i / 4096) None
+
+-- byte i lies on a place that is unmapped
+abbrev pub is_unmapped : Places → ℕ → Bool
+is_unmapped places i = not (is_beyond places i) && is_none (page_of_byte places i)
+
+-- where byte i lies: its page and its number there
+abbrev pub byte_location : Places → ℕ → Option (PageKey × ℕ)
+byte_location places i = option_map (λ key. (key, i % 4096)) (page_of_byte places i)
+
+-- a test of a region's places, false where the region isn't defined
+abbrev pub holds_of : Option Places → (Places → Bool) → Bool
+holds_of None test = false
+holds_of (Some places) test = test places
+
+-- when byte i of a region can't be had
+abbrev pub byte_tests : ℕ → Regions → ℕ → ℕ → List (Bool × Fault)
+byte_tests frame regions id i =
+    (nat_le id 4095 && is_none (defined_places regions id), fault.NoRegion)
+    ∷ (nat_lt 4095 id && not (id == frame_region), fault.RegionId)
+    ∷ (holds_of (places_of frame regions id) (λ places. is_unmapped places i), fault.Unmapped)
+    ∷ (holds_of (places_of frame regions id) (λ places. is_beyond places i), fault.BeyondRegion) ∷ []
+
+-- where byte i of a region lies
+abbrev pub located : ℕ → Regions → ℕ → ℕ → Option (PageKey × ℕ)
+located frame regions id i = option_and_then (λ places. byte_location places i) (places_of frame regions id)

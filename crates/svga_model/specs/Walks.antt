@@ -1,0 +1,148 @@
+-- Descriptor chains: the walk that reads one, and what it gives.
+use Rattle.std.specs.Prelude.{ℕ, zero, suc, ◌+◌, ◌*◌, ◌^◌, List, [], ◌∷◌, ◌++◌, length, map as map_list, slice_index, Bool, true, false, nat_lt, nat_le, ◌==◌, ◌&&◌, ◌||◌, not, if◌then◌else◌, Option, Some, None, unwrap_or, Result, Ok, Err}
+use Rattle.std.specs.FinMap as map
+use Rattle.std.specs.List.{range_with_len, flat_map, filter_map}
+use Rattle.svga_cmd.specs.Pages.{Memory}
+use Rattle.svga_cmd.specs.declared.fault.Fault.{Fault}
+use Rattle.svga_cmd.specs.declared.fault.Fault.TheVariants as fault
+use Rattle.svga_cmd.specs.declared.page.PageKey.TheVariants.{Guest}
+use Rattle.svga_model.specs.Regions.{Regions, guest_places, count_with}
+use Rattle.svga_model.specs.Standing.{first_standing}
+
+-- the bytes of a guest page, by its number
+abbrev pub Tables : Type 0
+Tables = ℕ → List ℕ
+
+-- those of a memory
+abbrev pub tables_of : Memory → Tables
+tables_of memory p = unwrap_or (map.get memory (Guest p)) []
+
+-- the 32-bit number from byte i on, its low byte first
+abbrev pub little_word : List ℕ → ℕ → ℕ
+little_word bytes i = slice_index bytes i + 256 * slice_index bytes (i + 1) + 2 ^ 16 * slice_index bytes (i + 2) + 2 ^ 24 * slice_index bytes (i + 3)
+
+-- a descriptor: a page and a count, or (0, 0) at the end of a chain
+pub record Descriptor : Type 0 where
+  pub page : ℕ
+  pub count : ℕ
+
+-- where a descriptor stands: a table page, and its number there from 0 to 511
+pub record TablePlace : Type 0 where
+  pub table : ℕ
+  pub pair : ℕ
+
+-- a table page holds its descriptors as pairs of words
+abbrev pub descriptor_in : List ℕ → ℕ → Descriptor
+descriptor_in bytes pair = record { page = little_word bytes (8 * pair); count = little_word bytes (8 * pair + 4) }
+
+abbrev pub descriptor_at : Tables → TablePlace → Descriptor
+descriptor_at tables at = descriptor_in (tables at.table) at.pair
+
+-- (0, 0) ends the chain
+abbrev pub is_end : Descriptor → Bool
+is_end d = d.page == 0 && d.count == 0
+
+-- (q, 0) with another q links to table page q
+abbrev pub is_link : Descriptor → Bool
+is_link d = not (d.page == 0) && d.count == 0
+
+-- (q, n) with n over 0 lists n pages from q on
+abbrev pub is_run : Descriptor → Bool
+is_run d = nat_lt 0 d.count
+
+abbrev pub is_good_link : ℕ → Descriptor → Bool
+is_good_link guest d = is_link d && nat_lt d.page guest
+
+abbrev pub is_good_run : ℕ → Descriptor → Bool
+is_good_run guest d = is_run d && nat_le (d.page + d.count) guest
+
+-- a link to no guest page, or a run past the last one
+abbrev pub is_bad : ℕ → Descriptor → Bool
+is_bad guest d = (is_link d && nat_le guest d.page) || (is_run d && nat_lt guest (d.page + d.count))
+
+-- The place that comes after a descriptor: behind a good link the first one of that page, behind a good run the next
+-- one of the same page.
+abbrev pub next_place : ℕ → TablePlace → Descriptor → Option TablePlace
+next_place guest at d =
+    if is_good_link guest d then Some (record { table = d.page; pair = 0 }) else
+    if is_good_run guest d && nat_lt at.pair 511 then Some (record { table = at.table; pair = at.pair + 1 }) else None
+
+-- the places from one on, at most so many
+unfoldable pub places_from : ℕ → ℕ → Tables → Option TablePlace → List TablePlace
+places_from zero guest tables at = []
+places_from (suc n) guest tables None = []
+places_from (suc n) guest tables (Some at) = at ∷ places_from n guest tables (next_place guest at (descriptor_at tables at))
+
+-- the walk: the places that the reading of a chain comes to
+abbrev pub walk : ℕ → Tables → ℕ → List TablePlace
+walk guest tables first = places_from 4096 guest tables (Some (record { table = first; pair = 0 }))
+
+-- the table pages that it enters, in order, each as often as it enters it
+abbrev pub entered : List TablePlace → List ℕ
+entered places = filter_map (λ at. if at.pair == 0 then Some at.table else None) places
+
+-- the pages that a descriptor lists
+abbrev pub run_pages : Descriptor → List ℕ
+run_pages d = range_with_len d.page d.count
+
+-- the pages that the descriptors at these places list, in order
+abbrev pub listed_pages : Tables → List TablePlace → List ℕ
+listed_pages tables places = flat_map (λ at. run_pages (descriptor_at tables at)) places
+
+-- how a walk can fail at its last place, when that is the count-th
+abbrev pub last_tests : ℕ → ℕ → TablePlace → Descriptor → List (Bool × Fault)
+last_tests guest count at d =
+    (is_bad guest d, fault.BadPage)
+    ∷ (is_good_run guest d && at.pair == 511, fault.ChainEnd)
+    ∷ (nat_le 4096 count && not (is_end d), fault.ChainLimit) ∷ []
+
+-- the pages, unless there is a fault
+abbrev pub unless : Option Fault → List ℕ → Result (List ℕ) Fault
+unless None pages = Ok pages
+unless (Some f) pages = Err f
+
+-- the last of some places, behind a first one
+abbrev pub last_of : TablePlace → List TablePlace → TablePlace
+last_of at [] = at
+last_of at (next ∷ places) = last_of next places
+
+-- What a walk gives by its last place, which came through so many places and so many pages before these.
+abbrev pub outcome_after : ℕ → Tables → ℕ → List ℕ → List TablePlace → Result (List ℕ) Fault
+outcome_after guest tables count pages [] = Ok pages
+outcome_after guest tables count pages (at ∷ places) =
+    let last = last_of at places in
+    unless (first_standing (last_tests guest (count + length (at ∷ places)) last (descriptor_at tables last))) (pages ++ listed_pages tables (at ∷ places))
+
+-- what the reading of a chain gives: the pages that it lists, or a fault
+abbrev pub walk_outcome : ℕ → Tables → ℕ → Result (List ℕ) Fault
+walk_outcome guest tables first = if nat_le guest first then Err fault.BadPage else outcome_after guest tables 0 [] (walk guest tables first)
+
+-- when a chain can't be begun
+abbrev pub start_tests : ℕ → ℕ → ℕ → List (Bool × Fault)
+start_tests guest id first = (nat_lt 4095 id, fault.RegionId) ∷ (nat_le guest first, fault.BadPage) ∷ []
+
+-- when a list of so many places is too much for a region
+abbrev pub list_tests : Regions → ℕ → ℕ → List (Bool × Fault)
+list_tests regions id pages = (nat_lt 65536 (count_with regions id pages), fault.PlaceLimit) ∷ []
+
+abbrev pub given_tests : Regions → ℕ → Result (List ℕ) Fault → List (Bool × Fault)
+given_tests regions id (Ok pages) = list_tests regions id (length pages)
+given_tests regions id (Err f) = (true, f) ∷ []
+
+-- when a chain is refused; with first page 0 there is none to be read, and the region goes
+abbrev pub chain_tests : ℕ → Regions → Tables → ℕ → ℕ → List (Bool × Fault)
+chain_tests guest regions tables id first =
+    (nat_lt 4095 id, fault.RegionId)
+    ∷ (if first == 0 then [] else given_tests regions id (walk_outcome guest tables first))
+
+-- the regions with a list of guest pages
+abbrev pub with_pages : Regions → ℕ → List ℕ → Regions
+with_pages regions id pages = map.insert regions id (guest_places pages)
+
+abbrev pub with_given : Regions → ℕ → Result (List ℕ) Fault → Regions
+with_given regions id (Ok pages) = with_pages regions id pages
+with_given regions id (Err f) = regions
+
+-- the regions after a chain
+abbrev pub with_chain : ℕ → Regions → Tables → ℕ → ℕ → Regions
+with_chain guest regions tables id first = if first == 0 then map.remove regions id else with_given regions id (walk_outcome guest tables first)

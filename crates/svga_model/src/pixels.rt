@@ -1,0 +1,33 @@
+//! What holds of colours and of a blit's pixels. The functions do nothing: their contracts are the laws.
+ghost use Rattle.std.specs.Prelude.{◌≡◌, ℕ, ◌<◌, pos, List, [], ◌∷◌, All, length};
+ghost use Rattle.svga_cmd.specs.declared.format.Format.{Format};
+ghost use Rattle.svga_model.specs.BlitExamples.{corner_blit, gmrfb, one_screen, two_screens, virtual_blit};
+ghost use Rattle.svga_model.specs.BlitPixels.{all_screens, blit_pixels, covers};
+ghost use Rattle.svga_model.specs.Colours.{bytes_of, colour_of, pixel_length, with_unused_zero};
+
+/// A pixel that is widened and narrowed again is as it was, but for the bits that it doesn't use.
+pub fn narrowed_colour()
+    ensures { (f : Format) (bs : List ℕ) → length bs ≡ pixel_length f → All (λ b. b < 256) bs → bytes_of f (colour_of f bs) ≡ with_unused_zero f bs }
+{}
+
+/// A blit whose rectangle begins one pixel outside a screen of 4 by 4 pixels has the four pixels that lie on it.
+pub fn pixels_at_a_corner()
+    // The first is pixel (1, 1) of the GMRFB.
+    ensures { blit_pixels one_screen gmrfb corner_blit ≡
+        record { x = pos 0; y = pos 0; offset = pos 104 }
+        ∷ record { x = pos 1; y = pos 0; offset = pos 108 }
+        ∷ record { x = pos 0; y = pos 1; offset = pos 204 }
+        ∷ record { x = pos 1; y = pos 1; offset = pos 208 } ∷ [] }
+{}
+
+/// A blit in virtual coordinates over two screens that share a place.
+pub fn pixels_of_two_screens()
+    ensures pixels { blit_pixels two_screens gmrfb virtual_blit ≡
+        record { x = pos 0; y = pos 0; offset = pos 0 }
+        ∷ record { x = pos 1; y = pos 0; offset = pos 4 }
+        ∷ record { x = pos 2; y = pos 0; offset = pos 8 } ∷ [] }
+
+    // The shared place is a pixel of both, and the lower id comes first.
+    ensures shared { covers two_screens all_screens (pos 1) (pos 0) ≡ record { screen = 0; x = 1; y = 0 } ∷ record { screen = 1; x = 0; y = 0 } ∷ [] }
+    ensures alone { covers two_screens 1 (pos 1) (pos 0) ≡ record { screen = 1; x = 1; y = 0 } ∷ [] }
+{}

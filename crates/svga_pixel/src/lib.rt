@@ -1,0 +1,18 @@
+//! Pixels as colours, and colours as pixels, one at a time and row by row.
+//!
+//! A colour is the number `65536 * r + 256 * g + b`. What the bytes of each format mean is said by the
+//! definitions of `svga_model` in `Colours`.
+#![tactic(auto)]
+
+mod bgr;
+mod colour;
+mod layout;
+mod pixel;
+mod row;
+mod sixteen;
+
+pub use pixel::{narrow, pixel_length, widen};
+pub use row::{read_row, write_row};
+
+#[cfg(test)]
+mod tests;

@@ -1,0 +1,61 @@
+//! Rows of pixels.
+ghost use Rattle.std.specs.Prelude.{◌≡◌, ◌*◌, ◌<◌, All, length};
+ghost use Rattle.svga_model.specs.Colours.{pixel_length, row_bytes, row_colours};
+
+use crate::bgr::{Bgr24, Bgrx32};
+use crate::layout::Layout;
+use crate::sixteen::{Rgb555, Rgb565};
+use svga_cmd::Format;
+
+/// Reads a row: each colour becomes that of its pixel's bytes.
+pub fn read_row(format: Format, bytes: &[u8], colours: &mut [u32])
+    requires { length bytes.now ≡ length colours.old * pixel_length format }
+    ensures colours { colours.new ≡ row_colours format (length colours.old) bytes.now }
+    ensures in_range { All (λ c. c < 16777216) colours.new }
+{
+    // The format is looked at once a row, so that each loop is tight.
+    match format {
+        Format::Bgrx32 => read::<Bgrx32>(bytes, colours),
+        Format::Bgr24 => read::<Bgr24>(bytes, colours),
+        Format::Rgb565 => read::<Rgb565>(bytes, colours),
+        Format::Rgb555 => read::<Rgb555>(bytes, colours),
+    }
+}
+
+/// Writes a row: each pixel's bytes become those of its colour.
+pub fn write_row(format: Format, colours: &[u32], bytes: &mut [u8])
+    requires in_range { All (λ c. c < 16777216) colours.now }
+    requires whole { length bytes.old ≡ length colours.now * pixel_length format }
+    ensures { bytes.new ≡ row_bytes format colours.now }
+{
+    match format {
+        Format::Bgrx32 => write::<Bgrx32>(colours, bytes),
+        Format::Bgr24 => write::<Bgr24>(colours, bytes),
+        Format::Rgb565 => write::<Rgb565>(colours, bytes),
+        Format::Rgb555 => write::<Rgb555>(colours, bytes),
+    }
+}
+
+fn read<L: Layout>(bytes: &[u8], colours: &mut [u32])
+    requires { length bytes.now ≡ length colours.old * pixel_length L.format }
+    ensures colours { colours.new ≡ row_colours L.format (length colours.old) bytes.now }
+    ensures in_range { All (λ c. c < 16777216) colours.new }
+{
+    let length = L::length();
+    for k in 0..colours.len() {
+        let at = k * length;
+        colours[k] = L::widen(&bytes[at..at + length]);
+    }
+}
+
+fn write<L: Layout>(colours: &[u32], bytes: &mut [u8])
+    requires in_range { All (λ c. c < 16777216) colours.now }
+    requires whole { length bytes.old ≡ length colours.now * pixel_length L.format }
+    ensures { bytes.new ≡ row_bytes L.format colours.now }
+{
+    let length = L::length();
+    for (k, colour) in colours.iter().enumerate() {
+        let at = k * length;
+        L::narrow(*colour, &mut bytes[at..at + length]);
+    }
+}

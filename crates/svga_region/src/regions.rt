@@ -1,0 +1,248 @@
+//! Regions, seen as a finite map from ids to places.
+ghost use Rattle.std.specs.Prelude.{◌≡◌, ◌≢◌, ℕ, ◌+◌, ◌-◌, ◌<◌, ◌≤◌, ◌^◌, None, Some, IfOk, length, option_map, OnOk, OnErr, slice_index_or, unwrap_or, [], ◌∷◌};
+ghost use Rattle.std.specs.FinMap as map;
+ghost use Rattle.std.specs.Result.{result_err};
+ghost use Rattle.svga_cmd.specs.Lent.{entries_of};
+ghost use Rattle.svga_cmd.specs.Limits.{IsBetween};
+ghost use Rattle.svga_cmd.specs.WellFormed.{HasEntries};
+ghost use Rattle.svga_cmd.specs.declared.fault.Fault.TheVariants as fault;
+ghost use Rattle.svga_model.specs.RegionBytes.{byte_tests, byte_location, is_beyond, is_unmapped, located};
+ghost use Rattle.svga_model.specs.Regions.{places_of, define_tests, with_region, remap_tests, with_remap, named_pages, range_pages};
+ghost use Rattle.svga_model.specs.Standing.{first_standing};
+ghost use Rattle.svga_model.specs.Walks.{start_tests, list_tests, with_pages};
+ghost use Rattle.svga_region.specs.Chains.{Answers, begun_chain};
+ghost use Rattle.svga_region.specs.RegionSet.{Chain};
+ghost use Rattle.svga_region.specs.Conditions.{AreNamed, HasPlace, IsBegun, IsWhole};
+
+use crate::chain::{ChainNext, Reading, next_of};
+use crate::descriptor::Descriptor;
+use crate::entries::name_bad_page;
+use crate::placing::{listed_count, put_entries, put_runs};
+use crate::table::read_table;
+use std::alloc::{AllocError, Global};
+use std::marker::Model;
+use svga_cmd::{EntriesRef, Fault, Page, PageKey};
+use svga_rows::Rows;
+
+/// All regions, and the chain that is being read, if one is.
+#[derive(Drop)]
+pub struct Regions {
+    guest: u32,
+    frame: u32,
+    /// Which regions are defined, by their ids, and their lists.
+    defined: Vec<bool>,
+    lists: Rows<Option<PageKey>>,
+    chain: Option<Reading>,
+    /// The descriptors of that chain that were read.
+    runs: Vec<Descriptor>,
+}
+
+impl Model for Regions {
+    ghost use Rattle.std.specs.Prelude.{◌≡◌, ◌≤◌, option_map};
+    ghost use Rattle.svga_cmd.specs.Limits.{IsBetween};
+    ghost use Rattle.svga_region.specs.Kept.{AreRuns, AreSlots, chain_of, regions_of};
+    ghost use Rattle.svga_region.specs.RegionSet.{RegionSet, coded_set};
+
+    ghost Value = { RegionSet };
+
+    ghost coded = { coded_set };
+
+    ghost view = { λ a. record { guest = a.guest; frame = a.frame; regions = regions_of a.defined.items a.lists.lists; chain = option_map (chain_of a.runs.items) a.chain } };
+
+    ghost invariant = { λ a. IsBetween 1 16384 a.guest × IsBetween 1 8192 a.frame × AreSlots a.defined.items a.lists.lists × (a.lists.room ≡ 65536) × AreRuns a.runs.items a.chain };
+}
+
+impl Regions {
+    /// No regions but the framebuffer's.
+    pub fn new(alloc: Global, guest_pages: u32, frame_pages: u32) -> Result<Regions, AllocError>
+        requires guest { IsBetween 1 16384 guest_pages }
+        requires frame { IsBetween 1 8192 frame_pages }
+        ensures { IfOk result (λ regions. regions ≡ record { guest = guest_pages; frame = frame_pages; regions = map.empty; chain = None }) }
+    {
+        let defined = vec![in alloc; false; 4096]?;
+        let lists = Rows::new(alloc, 4096, 65536, None)?;
+        let none = Descriptor { page: 0, count: 0 };
+        let runs = vec![in alloc; none; 4096]?;
+        Ok(Regions {
+            guest: guest_pages,
+            frame: frame_pages,
+            defined,
+            lists,
+            chain: None,
+            runs,
+        })
+    }
+
+    /// Makes so many unmapped places and drops an older list; 0 deletes.
+    pub fn define(&mut self, id: u32, pages: u32) -> Result<(), Fault>
+        ensures fault { result_err result ≡ first_standing (define_tests self.old.regions id pages) }
+        ensures ok { OnOk result (self.new ≡ record self.old { regions = with_region self.old.regions id pages }) }
+        ensures err { OnErr result (self.new ≡ self.old) }
+    {
+        if id > 4095 {
+            return Err(Fault::RegionId);
+        }
+        let slot = id as usize;
+        let rest = self.lists.total() - self.lists.list(slot).len();
+        if rest + pages as usize > 65536 {
+            return Err(Fault::PlaceLimit);
+        }
+        self.lists.replace(slot, pages as usize, None);
+        self.defined[slot] = pages != 0;
+        Ok(())
+    }
+
+    /// Maps the places from `offset` on to the pages that the entries name.
+    pub fn remap(
+        &mut self,
+        id: u32,
+        offset: u32,
+        pages: u32,
+        entries: EntriesRef<'_>,
+    ) -> Result<(), Fault>
+        requires named { AreNamed (entries_of entries) }
+        requires fits { HasEntries (entries_of entries) pages }
+        ensures fault { result_err result ≡ first_standing (remap_tests self.old.guest self.old.regions id offset pages (named_pages (entries_of entries.entry) pages)) }
+        ensures ok { OnOk result (self.new ≡ record self.old { regions = with_remap self.old.regions id offset (range_pages (entries_of entries.entry) pages) }) }
+        ensures err { OnErr result (self.new ≡ self.old) }
+    {
+        if id > 4095 {
+            return Err(Fault::RegionId);
+        }
+        let slot = id as usize;
+        if !self.defined[slot] {
+            return Err(Fault::NoRegion);
+        }
+        if offset as usize + pages as usize > self.lists.list(slot).len() {
+            return Err(Fault::RangeBeyond);
+        }
+        if name_bad_page(self.guest, entries, pages) {
+            return Err(Fault::BadPage);
+        }
+        put_entries(&mut self.lists, slot, offset, self.guest, entries, pages);
+        Ok(())
+    }
+
+    /// How many places a region has.
+    pub fn length(&self, id: u32) -> Option<u32>
+        ensures { result ≡ option_map length (places_of self.now.frame self.now.regions id) }
+    {
+        if id == 0xFFFF_FFFE {
+            Some(self.frame)
+        } else if id > 4095 {
+            None
+        } else if !self.defined[id as usize] {
+            None
+        } else {
+            Some(self.lists.list(id as usize).len() as u32)
+        }
+    }
+
+    /// The page at a place, if the place is mapped.
+    pub fn place(&self, id: u32, k: u32) -> Option<PageKey>
+        requires { HasPlace (places_of self.now.frame self.now.regions id) k }
+        ensures { result ≡ slice_index_or (unwrap_or (places_of self.now.frame self.now.regions id) []) k None }
+    {
+        if id == 0xFFFF_FFFE {
+            Some(PageKey::Frame(k))
+        } else {
+            self.lists.list(id as usize)[k as usize]
+        }
+    }
+
+    /// The page that a byte of a region lies on, and the byte's number there.
+    pub fn locate(&self, id: u32, byte: u64) -> Result<(PageKey, u16), Fault>
+        ensures fault { result_err result ≡ first_standing (byte_tests self.now.frame self.now.regions id byte) }
+        ensures located { IfOk result (λ at. located self.now.frame self.now.regions id byte ≡ Some at) }
+    {
+        if id == 0xFFFF_FFFE {
+            let page = byte / 4096;
+            if page < self.frame as u64 {
+                Ok((PageKey::Frame(page as u32), (byte % 4096) as u16))
+            } else {
+                Err(Fault::BeyondRegion)
+            }
+        } else if id > 4095 {
+            Err(Fault::RegionId)
+        } else if !self.defined[id as usize] {
+            Err(Fault::NoRegion)
+        } else {
+            locate_in(self.lists.list(id as usize), byte)
+        }
+    }
+
+    /// Begins a chain of descriptors for a region, with its first table page. A chain that was begun before is dropped.
+    pub fn chain_start(&mut self, id: u32, first: u32) -> Result<(), Fault>
+        requires { first ≢ 0 }
+        ensures fault { result_err result ≡ first_standing (start_tests self.old.guest id first) }
+        ensures ok { OnOk result (self.new ≡ record self.old { chain = Some (begun_chain id first) }) }
+        ensures err { OnErr result (self.new ≡ self.old) }
+    {
+        if id > 4095 {
+            return Err(Fault::RegionId);
+        }
+        if first >= self.guest {
+            return Err(Fault::BadPage);
+        }
+        self.chain = Some(Reading {
+            id,
+            count: 0,
+            wants: Some(first),
+        });
+        Ok(())
+    }
+
+    /// Reads the table page that the chain wants. After a refusal the chain is over.
+    pub fn chain_page(&mut self, page: &Page) -> Result<ChainNext, Fault>
+        requires { IsBegun self.old.chain }
+        ensures answer { Answers self.old.guest self.old.chain page.now result self.new.chain }
+        ensures kept { self.new ≡ record self.old { chain = self.new.chain } }
+    {
+        let reading = self.chain.unwrap();
+        match read_table(page.bytes(), self.guest, &mut self.runs, reading) {
+            Ok(read) => {
+                self.chain = Some(read);
+                Ok(next_of(read))
+            }
+            Err(fault) => {
+                self.chain = None;
+                Err(fault)
+            }
+        }
+    }
+
+    /// Makes the region of the whole chain's list. The chain is over, also after a refusal.
+    pub fn chain_finish(&mut self) -> Result<(), Fault>
+        requires { IsWhole self.old.chain }
+        ensures fault { (c : Chain) → self.old.chain ≡ Some c → result_err result ≡ first_standing (list_tests self.old.regions c.id (length c.pages)) }
+        ensures ok { OnOk result ((c : Chain) → self.old.chain ≡ Some c → self.new ≡ record self.old { regions = with_pages self.old.regions c.id c.pages; chain = None }) }
+        ensures err { OnErr result (self.new ≡ record self.old { chain = None }) }
+    {
+        let reading = self.chain.unwrap();
+        self.chain = None;
+        let slot = reading.id as usize;
+        let runs = &self.runs[..reading.count];
+        let pages = listed_count(runs);
+        let rest = self.lists.total() - self.lists.list(slot).len();
+        if rest + pages > 65536 {
+            return Err(Fault::PlaceLimit);
+        }
+        self.lists.replace(slot, pages, None);
+        put_runs(&mut self.lists, slot, runs);
+        self.defined[slot] = true;
+        Ok(())
+    }
+}
+
+fn locate_in(places: &[Option<PageKey>], byte: u64) -> Result<(PageKey, u16), Fault>
+    ensures fault { result_err result ≡ first_standing ((is_unmapped places.now byte, fault.Unmapped) ∷ (is_beyond places.now byte, fault.BeyondRegion) ∷ []) }
+    ensures located { IfOk result (λ at. byte_location places.now byte ≡ Some at) }
+{
+    if byte / 4096 >= places.len() as u64 {
+        return Err(Fault::BeyondRegion);
+    }
+    match places[(byte / 4096) as usize] {
+        None => Err(Fault::Unmapped),
+        Some(key) => Ok((key, (byte % 4096) as u16)),
+    }
+}

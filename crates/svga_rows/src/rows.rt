@@ -1,0 +1,136 @@
+//! Lists one behind another.
+ghost use Rattle.std.specs.Prelude.{◌≡◌, ℕ, ◌+◌, ◌-◌, ◌≤◌, ◌<◌, ◌^◌, List, length, slice_index, slice_index_or, slice_set, slice_range, replicate, [], IfOk};
+ghost use Rattle.svga_rows.specs.Rows.{AreStarts, lists_of, list_at, total_length, with_values};
+
+use crate::shift::{put, replace_middle, shift};
+use std::alloc::{AllocError, Global};
+use std::marker::Model;
+
+/// A fixed number of lists, which together may have so many items. List i goes from start i to start i + 1.
+#[derive(Drop)]
+pub struct Rows<T> {
+    items: Vec<T>,
+    starts: Vec<usize>,
+}
+
+impl<T> Model for Rows<T> {
+    ghost use Rattle.svga_rows.specs.Rows.{Rows as RowsValue, lists_of, AreStarts};
+    ghost use Rattle.std.specs.Prelude.{length};
+
+    ghost Value = { RowsValue T };
+
+    ghost view = { λ a. record { lists = lists_of a.starts.items a.items.items; room = length a.items.items } };
+
+    ghost invariant = { λ a. AreStarts a.starts.items (length a.items.items) };
+}
+
+impl<T: Copy + Drop> Rows<T> {
+    /// Empty lists, with room for so many items in all. The value fills the room until it is used, and is never seen.
+    pub fn new(alloc: Global, lists: usize, room: usize, value: T) -> Result<Rows<T>, AllocError>
+        requires { lists + 1 < 2 ^ 64 }
+        ensures { IfOk result (λ rows. rows ≡ record { lists = replicate lists []; room = room }) }
+    {
+        let items = vec![in alloc; value; room]?;
+        let starts = vec![in alloc; 0; lists + 1]?;
+        Ok(Rows { items, starts })
+    }
+
+    /// The list at a place.
+    pub fn list(&self, place: usize) -> &[T]
+        requires { place < length self.now.lists }
+        ensures { result.now ≡ list_at self.now place }
+    {
+        slice_between(&self.items, &self.starts, place)
+    }
+
+    /// How many items there are in all lists.
+    pub fn total(&self) -> usize
+        ensures total { result ≡ total_length self.now }
+        ensures room { result ≤ self.now.room }
+    {
+        last_start(&self.items, &self.starts)
+    }
+
+    /// Replaces one item of a list; all else stays.
+    pub fn set(&mut self, place: usize, index: usize, value: T)
+        requires within { place < length self.old.lists }
+        requires present { index < length (list_at self.old place) }
+        ensures lists { self.new.lists ≡ slice_set self.old.lists place (slice_set (list_at self.old place) index value) }
+        ensures room { self.new.room ≡ self.old.room }
+    {
+        set_at(&mut self.items, &self.starts, place, index, value);
+    }
+
+    /// Replaces the items of a list from an index on; all else stays.
+    pub fn write(&mut self, place: usize, from: usize, values: &[T])
+        requires within { place < length self.old.lists }
+        requires fits { from + length values.now ≤ length (list_at self.old place) }
+        ensures lists { self.new.lists ≡ slice_set self.old.lists place (with_values (list_at self.old place) from values.now) }
+        ensures room { self.new.room ≡ self.old.room }
+    {
+        write_at(&mut self.items, &self.starts, place, from, values);
+    }
+
+    /// Replaces a list by one that has the value `count` times; all other lists stay. It moves what stands behind the list.
+    pub fn replace(&mut self, place: usize, count: usize, value: T)
+        requires within { place < length self.old.lists }
+        requires room { total_length self.old - length (list_at self.old place) + count ≤ self.old.room }
+        ensures lists { self.new.lists ≡ slice_set self.old.lists place (replicate count value) }
+        ensures room { self.new.room ≡ self.old.room }
+    {
+        replace_at(&mut self.items, &mut self.starts, place, count, value);
+    }
+}
+
+fn slice_between<'a, T>(items: &'a [T], starts: &[usize], place: usize) -> &'a [T]
+    requires starts { AreStarts starts.now (length items.now) }
+    requires within { place + 1 < length starts.now }
+    ensures { result.now ≡ slice_range items.now (slice_index starts.now place) (slice_index starts.now (place + 1)) }
+{
+    let start = starts[place];
+    let end = starts[place + 1];
+    &items[start..end]
+}
+
+fn last_start<T>(items: &[T], starts: &[usize]) -> usize
+    requires { AreStarts starts.now (length items.now) }
+    ensures { result ≡ slice_index starts.now (length starts.now - 1) }
+{
+    let _count = items.len();
+    starts[starts.len() - 1]
+}
+
+fn set_at<T: Copy>(items: &mut [T], starts: &[usize], place: usize, index: usize, value: T)
+    requires starts { AreStarts starts.now (length items.old) }
+    requires within { place + 1 < length starts.now }
+    requires present { index < slice_index starts.now (place + 1) - slice_index starts.now place }
+    ensures { lists_of starts.now items.new ≡ slice_set (lists_of starts.now items.old) place (slice_set (slice_index_or (lists_of starts.now items.old) place []) index value) }
+{
+    let start = starts[place];
+    let _end = starts[place + 1];
+    items[start + index] = value;
+}
+
+fn write_at<T: Copy>(items: &mut [T], starts: &[usize], place: usize, from: usize, values: &[T])
+    requires starts { AreStarts starts.now (length items.old) }
+    requires within { place + 1 < length starts.now }
+    requires fits { from + length values.now ≤ slice_index starts.now (place + 1) - slice_index starts.now place }
+    ensures { lists_of starts.now items.new ≡ slice_set (lists_of starts.now items.old) place (with_values (slice_index_or (lists_of starts.now items.old) place []) from values.now) }
+{
+    let start = starts[place];
+    put(items, start + from, values);
+}
+
+fn replace_at<T: Copy>(items: &mut [T], starts: &mut [usize], place: usize, count: usize, value: T)
+    requires starts { AreStarts starts.old (length items.old) }
+    requires within { place + 1 < length starts.old }
+    requires room { slice_index starts.old (length starts.old - 1) - (slice_index starts.old (place + 1) - slice_index starts.old place) + count ≤ length items.old }
+    ensures starts { AreStarts starts.new (length items.old) }
+    ensures lists { lists_of starts.new items.new ≡ slice_set (lists_of starts.old items.old) place (replicate count value) }
+{
+    let start = starts[place];
+    let end = starts[place + 1];
+    let used = starts[starts.len() - 1];
+    replace_middle(items, start, end, used, count, value);
+    shift(starts, place + 1, end - start, count);
+}

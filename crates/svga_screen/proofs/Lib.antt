@@ -1,0 +1,4 @@
+pub mod ClipLaws
+pub mod FaultLaws
+pub mod PixelLaws
+pub mod ScreenLaws

@@ -1,0 +1,17 @@
+//! Screens and their pictures, and the part of a rectangle that lies on an area.
+//!
+//! The pictures of all screens stand one behind another in one vector with room for the pixel budget, which
+//! closes up when a screen goes.
+#![tactic(auto)]
+
+mod area;
+mod clipping;
+mod picture;
+mod screens;
+
+pub use area::Area;
+pub use clipping::clip;
+pub use screens::Screens;
+
+#[cfg(test)]
+mod tests;
