@@ -1,11 +1,10 @@
 -- What a map from numbers below a bound has at a number.
-use Rattle.std.proofs.Common.{◌≡◌, ◌≢◌, ℕ, zero, suc, ◌+◌, ◌<◌, ◌≤◌, refl, sym, ap, subst, ◌∙◌, Option, Some, None, List, [], length, arith, nat_lt, if◌then◌else◌, Bool, true, false, cond}
-use Rattle.std.proofs.lemmas.Bool.Decides.{nat_tests}
+use Rattle.std.proofs.Common.{◌≡◌, ◌≢◌, ℕ, zero, suc, ◌<◌, ◌≤◌, refl, sym, subst, ◌∙◌, Option, Some, None, arith}
 use Rattle.std.specs.Cmp.{nat_cmp_total}
 use Rattle.std.specs.FinMap as map
 use Rattle.std.specs.FinMap.{FinMap, nat_cmp-IsAntisymmetric, get-empty}
 use Rattle.std.specs.Ordering.{nat_cmp}
-use Rattle.svga_cmd.proofs.Maps.{get_same, get_other, by_key, is_insert, is_remove}
+use Rattle.svga_cmd.proofs.Maps.{get_same, get_other, by_key}
 use Rattle.svga_model.specs.Tabulated.{tabulated, with_optional}
 
 slot_same : {X : Type 0} (m : FinMap nat_cmp X) (n : ℕ) (o : Option X) → map.get m n ≡ None → map.get (with_optional m n o) n ≡ o

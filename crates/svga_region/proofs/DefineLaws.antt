@@ -1,5 +1,5 @@
 -- What the regions are after a change of one list.
-use Rattle.std.proofs.Common.{◌≡◌, ◌≢◌, ℕ, zero, suc, ◌+◌, ◌-◌, ◌<◌, ◌≤◌, refl, sym, ap, subst, ◌∙◌, Option, Some, None, List, [], ◌∷◌, length, arith, nat_lt, nat_le, not, ◌==◌, ◌&&◌, if◌then◌else◌, Bool, true, false, cond, slice_index_or, slice_set, replicate, sum_by, unwrap_or, get_or-set_same, get_or-set_other, is_some, is_none, All, ◌⊎◌, inl, inr}
+use Rattle.std.proofs.Common.{◌≡◌, ◌≢◌, ℕ, zero, suc, ◌+◌, ◌<◌, ◌≤◌, refl, sym, ap, subst, ◌∙◌, Option, Some, None, List, [], ◌∷◌, length, arith, nat_lt, nat_le, not, ◌==◌, ◌&&◌, Bool, true, false, cond, slice_index_or, slice_set, replicate, sum_by, unwrap_or, get_or-set_same, get_or-set_other, is_some, is_none, All, ◌⊎◌, inl, inr}
 use Rattle.std.specs.List.{range_with_len, list_any}
 use Rattle.std.proofs.lemmas.Bool.{cases_lt}
 use Rattle.std.proofs.lemmas.List.{same_lists, length-set, get_or_default, get_or_past, get_or-replicate, length-replicate}
@@ -9,7 +9,6 @@ use Rattle.std.specs.Cmp.{nat_cmp_total}
 use Rattle.std.specs.FinMap as map
 use Rattle.std.specs.FinMap.{nat_cmp-IsAntisymmetric, get-empty}
 use Rattle.svga_cmd.proofs.Maps.{is_insert, is_remove, same_gets}
-use Rattle.svga_cmd.specs.declared.fault.Fault.{Fault}
 use Rattle.svga_cmd.specs.declared.fault.Fault.TheVariants as fault
 use Rattle.svga_model.proofs.TabulatedLaws.{get-tabulated_past}
 use Rattle.svga_model.specs.Regions.{Places, Regions, defined_places, region_length, place_count, count_with, define_tests, with_region, remap_tests, guest_places, remapped, with_remap}

@@ -1,5 +1,5 @@
 -- Lists with other values from an offset on, and lists in a list.
-use Rattle.std.proofs.Common.{◌≡◌, ◌≢◌, ℕ, suc, ◌+◌, ◌-◌, ◌<◌, ◌≤◌, refl, sym, ap, ◌∙◌, List, [], ◌∷◌, ◌++◌, length, map, take, drop, slice_index_or, slice_set, arith, add-one, append_assoc, length-append, length-take, length-drop, Bool, true, false, ◌||◌, Option, Some, None, get_or-set_same, append-nil, replicate}
+use Rattle.std.proofs.Common.{◌≡◌, ℕ, suc, ◌+◌, ◌<◌, ◌≤◌, refl, sym, ap, ◌∙◌, List, [], ◌∷◌, ◌++◌, length, map, take, drop, slice_index_or, slice_set, arith, append_assoc, length-append, length-take, length-drop, Bool, ◌||◌, Option, None, get_or-set_same, append-nil, replicate}
 use Rattle.std.proofs.Math.Seq.{take-append_seam, drop-append-add, drop-cons, set-append_seam}
 use Rattle.std.proofs.lemmas.List.{set-set, set-get_or, length-replicate, drop-drop, drop_all, take-append-drop}
 use Rattle.std.specs.List.{list_any}

@@ -1,25 +1,20 @@
 -- What the regions have at an id.
-use Rattle.std.proofs.Common.{◌≡◌, ◌≢◌, ℕ, zero, suc, ◌+◌, ◌-◌, ◌*◌, ◌/◌, ◌%◌, ◌<◌, ◌≤◌, refl, sym, ap, subst, ◌∙◌, Option, Some, None, List, [], ◌∷◌, length, arith, nat_lt, nat_le, not, ◌==◌, ◌&&◌, if◌then◌else◌, Bool, true, false, cond, slice_index_or, slice_set, replicate, sum_by, unwrap_or, get_or-set_same, get_or-set_other, is_some, is_none, ◌⊎◌, inl, inr}
-use Rattle.std.specs.Prelude.{map as map_list, option_map, option_and_then}
-use Rattle.std.specs.List.{range_with_len, list_any}
+use Rattle.std.proofs.Common.{◌≡◌, ◌≢◌, ℕ, ◌*◌, ◌/◌, ◌%◌, ◌<◌, ◌≤◌, refl, sym, ap, subst, ◌∙◌, Option, Some, None, List, [], ◌∷◌, length, arith, nat_lt, nat_le, not, ◌==◌, ◌&&◌, Bool, true, false, cond, slice_index_or, unwrap_or, is_none, inl, inr}
+use Rattle.std.specs.Prelude.{option_map, option_and_then}
 use Rattle.std.proofs.lemmas.Bool.{cases_lt}
 use Rattle.std.proofs.lemmas.Bool.Decides.{nat_tests}
 use Rattle.std.proofs.lemmas.List.{get_or_default}
 use Rattle.std.proofs.lemmas.List.FromFn.{length-map-range_with_len, get_or-map-range_with_len}
-use Rattle.std.specs.Cmp.{nat_cmp_total}
 use Rattle.std.specs.FinMap as map
-use Rattle.std.specs.FinMap.{nat_cmp-IsAntisymmetric}
-use Rattle.svga_cmd.proofs.Maps.{by_key, is_insert, is_remove}
 use Rattle.svga_cmd.specs.declared.fault.Fault.{Fault}
 use Rattle.svga_cmd.specs.declared.fault.Fault.TheVariants as fault
-use Rattle.svga_cmd.specs.declared.page.PageKey.{PageKey}
-use Rattle.svga_cmd.specs.declared.page.PageKey.TheVariants.{Guest, Frame}
-use Rattle.svga_model.proofs.TabulatedLaws.{get-tabulated, get-tabulated_past}
+use Rattle.svga_cmd.specs.declared.page.PageKey.TheVariants.{Frame}
+use Rattle.svga_model.proofs.TabulatedLaws.{get-tabulated}
 use Rattle.svga_model.specs.RegionBytes.{byte_tests, byte_location, page_of_byte, holds_of, is_beyond, is_unmapped, located}
-use Rattle.svga_model.specs.Regions.{Places, Regions, frame_region, frame_places, defined_places, places_of, region_length, place_count, count_with, define_tests, with_region, remap_tests}
+use Rattle.svga_model.specs.Regions.{Places, Regions, frame_region, frame_places, defined_places, places_of}
 use Rattle.svga_model.specs.Standing.{first_standing}
 use Rattle.svga_region.specs.Conditions.{HasPlace}
-use Rattle.svga_region.specs.Kept.{regions_of, slot_of, AreEmpty}
+use Rattle.svga_region.specs.Kept.{regions_of, slot_of}
 
 pub get-regions_of : (defined : List Bool) (lists : List Places) (id : ℕ) → id < 4096 → map.get (regions_of defined lists) id ≡ slot_of defined lists id
 get-regions_of defined lists id l = get-tabulated 4096 (slot_of defined lists) id l

@@ -1,5 +1,5 @@
 -- The pages that are put place by place.
-use Rattle.std.proofs.Common.{◌≡◌, ℕ, suc, ◌+◌, ◌*◌, ◌<◌, ◌≤◌, refl, sym, ap, ◌∙◌, List, [], ◌∷◌, ◌++◌, length, map, take, slice_index, slice_index_or, arith, length-append, length-take, append-nil, replicate, Some, All, true, slice_set}
+use Rattle.std.proofs.Common.{◌≡◌, ℕ, ◌+◌, ◌<◌, ◌≤◌, refl, sym, ap, ◌∙◌, List, [], ◌∷◌, ◌++◌, length, map, take, slice_index, slice_index_or, arith, length-append, append-nil, Some, true, slice_set}
 use Rattle.std.proofs.lemmas.Bool.Decides.{nat_tests}
 use Rattle.std.proofs.lemmas.Grind.{flat_map-append}
 use Rattle.std.proofs.lemmas.List.{take_more, take_more_set, length-map, map-append, length-replicate}
@@ -7,15 +7,14 @@ use Rattle.std.proofs.lemmas.List.FromFn.{length-range_with_len, map-range_with_
 use Rattle.std.proofs.lemmas.List.Folds.{length-flat_map-take}
 use Rattle.std.specs.List.{flat_map, range_with_len}
 use Rattle.svga_cmd.specs.WellFormed.{HasEntries}
-use Rattle.svga_cmd.specs.declared.page.PageKey.{PageKey}
 use Rattle.svga_cmd.specs.declared.page.PageKey.TheVariants.{Guest}
 use Rattle.svga_cmd.specs.declared.remap.RemapData.{RemapData}
 use Rattle.svga_cmd.specs.declared.remap.RemapData.TheVariants.{Ppn32, Ppn64, SinglePpn32, SinglePpn64, ViaGmr32, ViaGmr64}
-use Rattle.svga_model.specs.Regions.{Places, guest_places, joined_words, range_pages}
+use Rattle.svga_model.specs.Regions.{guest_places, joined_words, range_pages}
 use Rattle.svga_model.specs.Walks.{descriptor_in, is_good_run, run_pages}
 use Rattle.svga_region.proofs.EntryLaws.{length-joined_list}
 use Rattle.svga_region.specs.Conditions.{AreNamed}
-use Rattle.svga_region.specs.Kept.{kept_pages, table_pages, as_descriptor, IsShortRun}
+use Rattle.svga_region.specs.Kept.{kept_pages, table_pages, as_descriptor}
 use Rattle.svga_region.specs.declared.descriptor.Descriptor.{Descriptor as Kept}
 
 pub length-guest_places : (numbers : List ℕ) → length (guest_places numbers) ≡ length numbers

@@ -1,10 +1,10 @@
 -- What a table page more does to a chain, by how its reading ends.
-use Rattle.std.proofs.Common.{◌≡◌, ℕ, zero, suc, ◌+◌, ◌-◌, ◌*◌, ◌<◌, ◌≤◌, refl, sym, ap, subst, ◌∙◌, Option, Some, None, List, [], ◌∷◌, ◌++◌, length, arith, nat_lt, nat_le, not, ◌==◌, ◌&&◌, ◌||◌, Bool, true, false, cond, Result, Ok, Err}
+use Rattle.std.proofs.Common.{◌≡◌, ℕ, suc, ◌+◌, ◌-◌, ◌<◌, ◌≤◌, refl, sym, ap, ◌∙◌, Some, None, List, [], ◌∷◌, ◌++◌, arith, nat_lt, nat_le, not, ◌==◌, ◌&&◌, Bool, true, false, cond}
 use Rattle.std.proofs.lemmas.Bool.Decides.{nat_tests}
 use Rattle.svga_cmd.specs.declared.fault.Fault.{Fault}
 use Rattle.svga_cmd.specs.declared.fault.Fault.TheVariants as fault
 use Rattle.svga_model.specs.Standing.{first_standing}
-use Rattle.svga_model.specs.Walks.{Tables, TablePlace, Descriptor, descriptor_in, is_end, is_link, is_run, is_good_link, is_good_run, is_bad, next_place, places_from, run_pages, last_tests, unless}
+use Rattle.svga_model.specs.Walks.{Tables, TablePlace, Descriptor, descriptor_in, is_end, is_good_link, is_good_run, is_bad, next_place, places_from, run_pages, last_tests, unless}
 use Rattle.svga_region.proofs.WalkLaws.{place_on, AreGoodRuns, places_from-none, places_from-zero, entered_stops, outcome_stops, entered_goes, entered_next, outcome_goes_on}
 use Rattle.svga_region.specs.Chains.{Ends, Fails, GoesOn}
 use Rattle.svga_region.specs.Kept.{table_pages}
@@ -186,6 +186,7 @@ module _ (guest : ℕ) (tables : Tables) (p : ℕ) (c : Chain) (bytes : List ℕ
         record {
           id = id;
           wants = wanted;
+          page = near;
           more = omega arith;
           few = omega arith;
           entered = entered_goes guest tables p c k n wants left (omega arith) runs d.page m e on longer wanted counted;

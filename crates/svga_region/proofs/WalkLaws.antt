@@ -1,13 +1,11 @@
 -- The walk of a chain, one table page at a time.
-use Rattle.std.proofs.Common.{◌≡◌, ◌≢◌, ℕ, zero, suc, ◌+◌, ◌-◌, ◌*◌, ◌<◌, ◌≤◌, refl, sym, ap, subst, ◌∙◌, Option, Some, None, List, [], ◌∷◌, ◌++◌, length, map, arith, add-one, append-nil, append_assoc, length-append, nat_lt, nat_le, not, ◌==◌, ◌&&◌, ◌||◌, Bool, true, false, cond, Result, Ok, Err}
+use Rattle.std.proofs.Common.{◌≡◌, ℕ, zero, suc, ◌+◌, ◌-◌, ◌<◌, ◌≤◌, refl, sym, ap, ◌∙◌, Option, Some, None, List, [], ◌∷◌, ◌++◌, length, map, arith, append-nil, append_assoc, length-append, nat_lt, ◌==◌, ◌&&◌, true, false, cond}
 use Rattle.std.proofs.lemmas.Bool.Decides.{nat_tests}
 use Rattle.std.proofs.lemmas.Grind.{flat_map-append}
 use Rattle.std.proofs.lemmas.List.FromFn.{length-map-range_with_len}
 use Rattle.std.specs.List.{flat_map, range_with_len, cons_option}
-use Rattle.svga_cmd.specs.declared.fault.Fault.{Fault}
-use Rattle.svga_cmd.specs.declared.fault.Fault.TheVariants as fault
 use Rattle.svga_model.specs.Standing.{first_standing}
-use Rattle.svga_model.specs.Walks.{Tables, TablePlace, Descriptor, descriptor_in, descriptor_at, is_end, is_link, is_run, is_good_link, is_good_run, is_bad, next_place, places_from, entered, run_pages, listed_pages, last_of, last_tests, unless, outcome_after}
+use Rattle.svga_model.specs.Walks.{Tables, TablePlace, Descriptor, descriptor_in, descriptor_at, is_good_link, is_good_run, next_place, places_from, entered, run_pages, listed_pages, last_of, last_tests, unless, outcome_after}
 use Rattle.std.specs.Prelude.{option_map}
 use Rattle.svga_region.specs.Chains.{places_left, entered_left, outcome_left}
 use Rattle.svga_region.specs.Kept.{table_pages}
