@@ -17,9 +17,11 @@ none_at p (x ∷ xs) (suc k) none l = none_at p xs k (rest (p x) (list_any p xs)
   rest true c e = cc
   rest false c e = e
 
+-- a number for each place
 pub length-joined_list : (ws : List ℕ) (count : ℕ) → length (joined_list ws count) ≡ count
 length-joined_list ws count = length-map-range_with_len (λ k. joined_words (slice_index ws (2 * k)) (slice_index ws (2 * k + 1))) 0 count
 
+-- one of the numbers
 pub get_or-joined_list : (ws : List ℕ) (count k : ℕ) → k < count → slice_index (joined_list ws count) k ≡ joined_words (slice_index ws (2 * k)) (slice_index ws (2 * k + 1))
 get_or-joined_list ws count k l = get_or-map-range_with_len (λ k. joined_words (slice_index ws (2 * k)) (slice_index ws (2 * k + 1))) 0 count k k 0 l (omega arith)
 
@@ -27,6 +29,7 @@ get_or-joined_list ws count k l = get_or-map-range_with_len (λ k. joined_words 
 pub low_word : (guest low high : ℕ) → guest ≤ 16384 → nat_le guest (joined_words low high) ≡ false → low ≡ joined_words low high
 low_word guest low high small good = grind (arith, nat_tests)
 
+-- a good list by its low words
 pub good_low : (guest : ℕ) (ws : List ℕ) (count k : ℕ) → guest ≤ 16384 → k < count → list_any (λ n. nat_le guest n) (joined_list ws count) ≡ false → slice_index ws (2 * k) ≡ slice_index (joined_list ws count) k
 good_low guest ws count k small l good = low_word guest (slice_index ws (2 * k)) (slice_index ws (2 * k + 1)) small
     (ap (λ n. nat_le guest n) (sym (get_or-joined_list ws count k l)) ∙ none_at (λ n. nat_le guest n) (joined_list ws count) k good (omega (arith, length-joined_list ws count)))

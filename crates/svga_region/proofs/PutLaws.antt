@@ -17,12 +17,15 @@ use Rattle.svga_region.specs.Conditions.{AreNamed}
 use Rattle.svga_region.specs.Kept.{kept_pages, table_pages, as_descriptor}
 use Rattle.svga_region.specs.declared.descriptor.Descriptor.{Descriptor as Kept}
 
+-- a place for each number
 pub length-guest_places : (numbers : List ℕ) → length (guest_places numbers) ≡ length numbers
 length-guest_places numbers = length-map numbers (λ n. Some (Guest n))
 
+-- the places of numbers behind numbers
 pub guest_places-append : (xs ys : List ℕ) → guest_places (xs ++ ys) ≡ guest_places xs ++ guest_places ys
 guest_places-append xs ys = map-append (λ n. Some (Guest n)) xs ys
 
+-- a page number for each place of the range
 pub length-range_pages : (entries : RemapData) (pages : ℕ) → AreNamed entries → HasEntries entries pages → length (range_pages entries pages) ≡ pages
 length-range_pages (Ppn32 list) pages named fits = fits
 length-range_pages (Ppn64 list) pages named fits = length-joined_list list pages
@@ -35,6 +38,7 @@ length-range_pages (ViaGmr64 pointer) pages named fits = absurd named
 pub guest_places-take : (numbers : List ℕ) (k : ℕ) → k < length numbers → guest_places (take k numbers) ++ Some (Guest (slice_index numbers k)) ∷ [] ≡ guest_places (take (k + 1) numbers)
 guest_places-take numbers k l = sym (ap guest_places (take_more numbers k 0 l) ∙ guest_places-append (take k numbers) (slice_index numbers k ∷ []))
 
+-- one page of a run more
 pub guest_places-range : (page k : ℕ) → guest_places (range_with_len page k) ++ Some (Guest (page + k)) ∷ [] ≡ guest_places (range_with_len page (k + 1))
 guest_places-range page k = sym (map-range_with_len_more (λ n. Some (Guest n)) page k (page + k) refl)
 
@@ -43,6 +47,7 @@ pub kept_pages-take : (runs : List Kept) (i : ℕ) (d : Kept) → i < length run
 kept_pages-take runs i d l = ap kept_pages (take_more runs i d l) ∙ flat_map-append (λ k. run_pages (as_descriptor k)) (take i runs) (slice_index_or runs i d ∷ [])
     ∙ ap (λ t. kept_pages (take i runs) ++ t) (append-nil (run_pages (as_descriptor (slice_index_or runs i d))))
 
+-- how many pages that are
 pub length-kept_pages-take : (runs : List Kept) (i : ℕ) (d : Kept) → i < length runs → length (kept_pages (take (i + 1) runs)) ≡ length (kept_pages (take i runs)) + (slice_index_or runs i d).count
 length-kept_pages-take runs i d l = let run = slice_index_or runs i d in
     ap length (kept_pages-take runs i d l) ∙ length-append (kept_pages (take i runs)) (run_pages (as_descriptor run)) ∙ ap (λ n. length (kept_pages (take i runs)) + n) (length-range_with_len run.page run.count)

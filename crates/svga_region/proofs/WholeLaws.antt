@@ -17,11 +17,13 @@ pub record IsOnWay (start : RegionSet) (tables : Tables) (id first : ℕ) (now :
   pub guest : now.guest ≡ start.guest
   pub frame : now.frame ≡ start.frame
   pub regions : now.regions ≡ start.regions
+  -- a test of an id
   pub small : id ≤ 4095
   pub chain : Chain
   pub begun : now.chain ≡ Some chain
   pub for_region : chain.id ≡ id
   pub wants : chain.wants ≡ Some wanted
+  -- a test of a page number
   pub near : wanted < start.guest
   pub progress : step ≤ chain.count
   pub few : chain.count < 4096
@@ -35,6 +37,7 @@ walk_outcome-good guest tables id first l = ap (λ t. cond t (Err fault.BadPage)
 pub chain_tests-id : (guest : ℕ) (regions : Regions) (tables : Tables) (id first : ℕ) → 4095 < id → first_standing (chain_tests guest regions tables id first) ≡ Some fault.RegionId
 chain_tests-id guest regions tables id first l = ap (λ t. first_standing ((t, fault.RegionId) ∷ cond (first == 0) [] (given_tests regions id (walk_outcome guest tables first)))) (let e : nat_lt 4095 id ≡ true = grind (arith, nat_tests) in e)
 
+-- the tests of a chain by what its walk gives
 pub chain_tests-given : (guest : ℕ) (regions : Regions) (tables : Tables) (id first : ℕ) (given : Result (List ℕ) Fault) → id ≤ 4095 → first ≢ 0 → walk_outcome guest tables first ≡ given
     → first_standing (chain_tests guest regions tables id first) ≡ first_standing (given_tests regions id given)
 chain_tests-given guest regions tables id first given l ne e =
@@ -42,6 +45,7 @@ chain_tests-given guest regions tables id first given l ne e =
     let some : (first == 0) ≡ false = grind (arith, nat_tests) in
     λ i. first_standing ((low i, fault.RegionId) ∷ cond (some i) [] (given_tests regions id (e i)))
 
+-- the regions after it, likewise
 pub with_chain-given : (guest : ℕ) (regions : Regions) (tables : Tables) (id first : ℕ) (given : Result (List ℕ) Fault) → first ≢ 0 → walk_outcome guest tables first ≡ given → with_chain guest regions tables id first ≡ with_given regions id given
 with_chain-given guest regions tables id first given ne e =
     let some : (first == 0) ≡ false = grind (arith, nat_tests) in
@@ -54,6 +58,7 @@ small id e = grind (arith, nat_tests)
 near : (guest first : ℕ) → nat_le guest first ≡ false → first < guest
 near guest first e = grind (arith, nat_tests)
 
+-- a chain that can be begun
 start_none : (guest id first : ℕ) → None ≡ first_standing (start_tests guest id first) → (id ≤ 4095) × (first < guest)
 start_none guest id first none = at (nat_lt 4095 id) (nat_le guest first) refl refl none where
   at : (a b : Bool) → nat_lt 4095 id ≡ a → nat_le guest first ≡ b → None ≡ first_standing ((a, fault.RegionId) ∷ (b, fault.BadPage) ∷ []) → (id ≤ 4095) × (first < guest)
@@ -61,6 +66,7 @@ start_none guest id first none = at (nat_lt 4095 id) (nat_le guest first) refl r
   at false true e f none = cc
   at false false e f none = (small id e, near guest first f)
 
+-- a chain that was begun is on its way
 pub way_begins : (start now : RegionSet) (tables : Tables) (id first : ℕ) → None ≡ first_standing (start_tests start.guest id first) → now ≡ record start { chain = Some (begun_chain id first) } → IsOnWay start tables id first now first 0
 way_begins start now tables id first none is = let good = start_none start.guest id first none in record {
   guest = ap (λ r. r.guest) is;
@@ -104,6 +110,7 @@ module _ (start now next : RegionSet) (tables : Tables) (id first wanted step : 
     outcome = ap (λ g. outcome_left g tables found.0) (sym way.guest) ∙ sym on.outcome ∙ ap (λ g. outcome_left g tables way.chain) way.guest ∙ way.outcome;
   }
 
+  -- a walk that ends with a fault
   pub way_fails : (f : Fault) → first ≢ 0 → IsAnswer now.guest tables wanted way.chain (Err f) next.chain → first_standing (chain_tests start.guest start.regions tables id first) ≡ Some f
   way_fails f ne answer = chain_tests-given start.guest start.regions tables id first (Err f) way.small ne (sym way.outcome ∙ ap (λ g. outcome_left g tables way.chain) (sym way.guest) ∙ answer.outcome)
 
@@ -111,6 +118,7 @@ module _ (start now next : RegionSet) (tables : Tables) (id first wanted step : 
   pub whole_chain : IsAnswer now.guest tables wanted way.chain (Ok Whole) next.chain → (d : Chain) × (next.chain ≡ Some d) × Ends now.guest tables wanted way.chain d
   whole_chain answer = there (λ d. Ends now.guest tables wanted way.chain d) next.chain answer
 
+  -- the chain is whole then
   pub whole_is : IsAnswer now.guest tables wanted way.chain (Ok Whole) next.chain → IsWhole next.chain
   whole_is answer = let found = whole_chain answer in let P : Option Chain → Type 0 = λ o. IsWhole o in subst P (sym found.1) found.2.wants
 
