@@ -47,6 +47,10 @@ place_count regions = sum_by (region_length regions) (range_with_len 0 4096)
 abbrev pub count_with : Regions → ℕ → ℕ → ℕ
 count_with regions id pages = place_count regions - region_length regions id + pages
 
+-- when an id is none of a region that commands define
+abbrev pub id_tests : ℕ → List (Bool × Fault)
+id_tests id = (nat_lt 4095 id, fault.RegionId) ∷ []
+
 -- when DEFINE_GMR2 is refused
 abbrev pub define_tests : Regions → ℕ → ℕ → List (Bool × Fault)
 define_tests regions id pages =

@@ -1,5 +1,5 @@
 -- Descriptor chains: the walk that reads one, and what it gives.
-use Rattle.std.specs.Prelude.{ℕ, zero, suc, ◌+◌, ◌*◌, ◌^◌, List, [], ◌∷◌, ◌++◌, length, map as map_list, slice_index, Bool, true, false, nat_lt, nat_le, ◌==◌, ◌&&◌, ◌||◌, not, if◌then◌else◌, Option, Some, None, unwrap_or, Result, Ok, Err}
+use Rattle.std.specs.Prelude.{ℕ, zero, suc, ◌+◌, ◌*◌, ◌^◌, List, [], ◌∷◌, ◌++◌, length, slice_index, Bool, true, nat_lt, nat_le, ◌==◌, ◌&&◌, ◌||◌, not, if◌then◌else◌, Option, Some, None, unwrap_or, Result, Ok, Err}
 use Rattle.std.specs.FinMap as map
 use Rattle.std.specs.List.{range_with_len, flat_map, filter_map}
 use Rattle.svga_cmd.specs.Pages.{Memory}
@@ -35,6 +35,7 @@ pub record TablePlace : Type 0 where
 abbrev pub descriptor_in : List ℕ → ℕ → Descriptor
 descriptor_in bytes pair = record { page = little_word bytes (8 * pair); count = little_word bytes (8 * pair + 4) }
 
+-- the descriptor at a place
 abbrev pub descriptor_at : Tables → TablePlace → Descriptor
 descriptor_at tables at = descriptor_in (tables at.table) at.pair
 
@@ -50,9 +51,11 @@ is_link d = not (d.page == 0) && d.count == 0
 abbrev pub is_run : Descriptor → Bool
 is_run d = nat_lt 0 d.count
 
+-- a link to a guest page
 abbrev pub is_good_link : ℕ → Descriptor → Bool
 is_good_link guest d = is_link d && nat_lt d.page guest
 
+-- a run of guest pages
 abbrev pub is_good_run : ℕ → Descriptor → Bool
 is_good_run guest d = is_run d && nat_le (d.page + d.count) guest
 
@@ -125,6 +128,7 @@ start_tests guest id first = (nat_lt 4095 id, fault.RegionId) ∷ (nat_le guest 
 abbrev pub list_tests : Regions → ℕ → ℕ → List (Bool × Fault)
 list_tests regions id pages = (nat_lt 65536 (count_with regions id pages), fault.PlaceLimit) ∷ []
 
+-- when a chain is refused whose reading gives this
 abbrev pub given_tests : Regions → ℕ → Result (List ℕ) Fault → List (Bool × Fault)
 given_tests regions id (Ok pages) = list_tests regions id (length pages)
 given_tests regions id (Err f) = (true, f) ∷ []
@@ -139,6 +143,7 @@ chain_tests guest regions tables id first =
 abbrev pub with_pages : Regions → ℕ → List ℕ → Regions
 with_pages regions id pages = map.insert regions id (guest_places pages)
 
+-- the regions with what the reading of a chain gives
 abbrev pub with_given : Regions → ℕ → Result (List ℕ) Fault → Regions
 with_given regions id (Ok pages) = with_pages regions id pages
 with_given regions id (Err f) = regions

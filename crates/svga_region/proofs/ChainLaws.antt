@@ -1,5 +1,5 @@
 -- The chain that is begun, before and after a table page.
-use Rattle.std.proofs.Common.{◌≡◌, ℕ, ◌+◌, ◌<◌, ◌≤◌, refl, sym, ap, subst, ◌∙◌, Option, Some, None, List, [], ◌∷◌, ◌++◌, length, take, drop, append-nil, arith, Result, Ok, Err, nat_lt, Bool, true, false, IfSome}
+use Rattle.std.proofs.Common.{◌≡◌, ℕ, ◌<◌, ◌≤◌, sym, ap, subst, ◌∙◌, Option, Some, None, List, [], ◌∷◌, ◌++◌, length, take, drop, append-nil, arith, Ok, Err, nat_lt, true, false, IfSome}
 use Rattle.std.proofs.lemmas.Bool.Decides.{nat_tests}
 use Rattle.std.proofs.lemmas.List.{drop_all, take_all}
 use Rattle.svga_cmd.specs.declared.fault.Fault.{Fault}
@@ -22,15 +22,18 @@ lent_whole old new len is same = ap (λ t. take len (new ++ t)) (drop_all (lengt
 pub known : (o : Option Reading) (r : Reading) → o ≡ Some r → IfSome o (λ r. IsReading r) → IsReading r
 known o r e h = let P : Option Reading → Type 0 = λ o. IfSome o (λ r. IsReading r) in subst P e h
 
+-- how the walk goes on, as the answer tells it
 continues : (guest : ℕ) (tables : Tables) (p : ℕ) (c d : Chain) (wants : Option ℕ) → Continues guest tables p c wants d → IsAnswer guest tables p c (Ok (next_by wants)) (Some d)
 continues guest tables p c d None h = h
 continues guest tables p c d (Some q) h = h
 
+-- the same over equal values
 pub answer_ok : (guest now : ℕ) (tables : Tables) (p : ℕ) (c b d e : Chain) (wants : Option ℕ) (next : ChainNext) → guest ≡ now → c ≡ b → d ≡ e → next ≡ next_by wants → Continues guest tables p c wants d → IsAnswer now tables p b (Ok next) (Some e)
 answer_ok guest now tables p c b d e wants next g h i j answer =
     let P : ℕ × Chain × Chain × ChainNext → Type 0 = λ t. IsAnswer t.0 tables p t.1 (Ok t.3) (Some t.2) in
     subst P (λ k. (g k, h k, i k, sym j k)) (continues guest tables p c d wants answer)
 
+-- a fault over equal values
 pub answer_err : (guest now : ℕ) (tables : Tables) (p : ℕ) (c b : Chain) (f : Fault) → guest ≡ now → c ≡ b → Fails guest tables p c f None → IsAnswer now tables p b (Err f) None
 answer_err guest now tables p c b f g h answer = let P : ℕ × Chain → Type 0 = λ t. Fails t.0 tables p t.1 f None in subst P (λ k. (g k, h k)) answer
 
@@ -40,6 +43,7 @@ list_over regions id pages more = ap (λ t. first_standing ((t, fault.PlaceLimit
   test : (n : ℕ) → 65536 < n → nat_lt 65536 n ≡ true
   test n more = grind (arith, nat_tests)
 
+-- a list that there is room for
 pub list_within : (regions : Regions) (id pages : ℕ) → count_with regions id pages ≤ 65536 → first_standing (list_tests regions id pages) ≡ None
 list_within regions id pages few = ap (λ t. first_standing ((t, fault.PlaceLimit) ∷ [])) (test (count_with regions id pages) few) where
   test : (n : ℕ) → n ≤ 65536 → nat_lt 65536 n ≡ false

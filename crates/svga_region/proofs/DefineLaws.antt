@@ -1,5 +1,5 @@
 -- What the regions are after a change of one list.
-use Rattle.std.proofs.Common.{◌≡◌, ◌≢◌, ℕ, zero, suc, ◌+◌, ◌-◌, ◌<◌, ◌≤◌, refl, sym, ap, subst, ◌∙◌, Option, Some, None, List, [], ◌∷◌, length, arith, nat_lt, nat_le, not, ◌==◌, ◌&&◌, if◌then◌else◌, Bool, true, false, cond, slice_index_or, slice_set, replicate, sum_by, unwrap_or, get_or-set_same, get_or-set_other, is_some, is_none, All, ◌⊎◌, inl, inr}
+use Rattle.std.proofs.Common.{◌≡◌, ◌≢◌, ℕ, zero, suc, ◌+◌, ◌<◌, ◌≤◌, refl, sym, ap, subst, ◌∙◌, Option, Some, None, List, [], ◌∷◌, length, arith, nat_lt, nat_le, not, ◌==◌, ◌&&◌, Bool, true, false, cond, slice_index_or, slice_set, replicate, sum_by, unwrap_or, get_or-set_same, get_or-set_other, is_some, is_none, All, ◌⊎◌, inl, inr}
 use Rattle.std.specs.List.{range_with_len, list_any}
 use Rattle.std.proofs.lemmas.Bool.{cases_lt}
 use Rattle.std.proofs.lemmas.List.{same_lists, length-set, get_or_default, get_or_past, get_or-replicate, length-replicate}
@@ -9,7 +9,6 @@ use Rattle.std.specs.Cmp.{nat_cmp_total}
 use Rattle.std.specs.FinMap as map
 use Rattle.std.specs.FinMap.{nat_cmp-IsAntisymmetric, get-empty}
 use Rattle.svga_cmd.proofs.Maps.{is_insert, is_remove, same_gets}
-use Rattle.svga_cmd.specs.declared.fault.Fault.{Fault}
 use Rattle.svga_cmd.specs.declared.fault.Fault.TheVariants as fault
 use Rattle.svga_model.proofs.TabulatedLaws.{get-tabulated_past}
 use Rattle.svga_model.specs.Regions.{Places, Regions, defined_places, region_length, place_count, count_with, define_tests, with_region, remap_tests, guest_places, remapped, with_remap}
@@ -29,6 +28,7 @@ others defined lists id t list l q ne = elim (cases_lt q 4096) as (λ _. map.get
   | inr large ↦ get-tabulated_past 4096 (slot_of (slice_set defined id t) (slice_set lists id list)) q large ∙ sym (get-tabulated_past 4096 (slot_of defined lists) q large)
 ]
 
+-- the id whose slot changes
 here : (defined : List Bool) (lists : List Places) (id : ℕ) (t : Bool) (list : Places) → id < 4096 → length defined ≡ 4096 → length lists ≡ 4096 → map.get (regions_of (slice_set defined id t) (slice_set lists id list)) id ≡ cond t (Some list) None
 here defined lists id t list l d n = get-regions_of (slice_set defined id t) (slice_set lists id list) id l
     ∙ ap (λ b. cond b (Some (slice_index_or (slice_set lists id list) id [])) None) (get_or-set_same defined id t false (omega arith))
@@ -65,17 +65,20 @@ length_in-slot defined lists id l empty = ap (λ o. length (unwrap_or o [])) (de
   go true e = ap (λ o. length (unwrap_or o [])) (slot_is defined lists id true e)
   go false e = ap (λ o. length (unwrap_or o [])) (slot_is defined lists id false e) ∙ sym (ap length (empty id e))
 
+-- a sum over ids is one over the lists
 sums : (f : ℕ → ℕ) (xs : List Places) (a : ℕ) → ((i : ℕ) → i < length xs → f (a + i) ≡ length (slice_index_or xs i [])) → sum_by f (range_with_len a (length xs)) ≡ sum_by length xs
 sums f [] a h = refl
 sums f (x ∷ xs) a h = sum_by-cons f a (range_with_len (a + 1) (length xs))
     ∙ (λ i. (ap f (let e : a ≡ a + 0 = omega arith in e) ∙ h 0 (omega arith)) i + sums f xs (a + 1) (λ j l. ap f (let e : a + 1 + j ≡ a + suc j = omega arith in e) ∙ h (suc j) (omega arith)) i)
     ∙ sym (sum_by-cons length x xs)
 
+-- the places of all regions are those of all slots
 pub place_count-slots : (defined : List Bool) (lists : List Places) → length lists ≡ 4096 → AreEmpty defined lists → place_count (regions_of defined lists) ≡ sum_by length lists
 unfolding place_count
 place_count-slots defined lists n empty = ap (λ k. sum_by (region_length (regions_of defined lists)) (range_with_len 0 k)) (sym n)
     ∙ sums (region_length (regions_of defined lists)) lists 0 (λ i l. length_in-slot defined lists (0 + i) (omega arith) empty ∙ ap (λ k. length (slice_index_or lists k [])) (let e : 0 + i ≡ i = omega arith in e))
 
+-- a length that is too much
 pub define_over : (regions : Regions) (id pages : ℕ) → id < 4096 → 65536 < count_with regions id pages → first_standing (define_tests regions id pages) ≡ Some fault.PlaceLimit
 define_over regions id pages l more =
     let low : nat_lt 4095 id ≡ false = grind (arith, nat_tests) in
@@ -86,6 +89,7 @@ define_over regions id pages l more =
     over_at : (n : ℕ) → 65536 < n → nat_lt 65536 n ≡ true
     over_at n more = grind (arith, nat_tests)
 
+-- a length that there is room for
 pub define_within : (regions : Regions) (id pages : ℕ) → id < 4096 → count_with regions id pages ≤ 65536 → first_standing (define_tests regions id pages) ≡ None
 define_within regions id pages l few =
     let low : nat_lt 4095 id ≡ false = grind (arith, nat_tests) in
@@ -96,6 +100,7 @@ define_within regions id pages l few =
     over_at : (n : ℕ) → n ≤ 65536 → nat_lt 65536 n ≡ false
     over_at n few = grind (arith, nat_tests)
 
+-- not twice
 pub twice : (b : Bool) → b ≡ not (not b)
 twice true = refl
 twice false = refl
@@ -117,10 +122,12 @@ regions_of-empty lists = same_gets nat_cmp_total nat_cmp-IsAntisymmetric (region
   | inr large ↦ get-tabulated_past 4096 (slot_of (replicate 4096 false) lists) q large ∙ sym (get-empty nat_cmp q)
 ])
 
+-- empty lists have no places
 sum_none : (n : ℕ) → sum_by length (replicate {A = Places} n []) ≡ 0
 sum_none zero = refl
 sum_none (suc n) = sum_by-cons {X = Places} length [] (replicate n []) ∙ (let e : 0 + sum_by length (replicate {A = Places} n []) ≡ 0 = omega (arith, sum_none n) in e)
 
+-- slots of which none is in use
 pub slots_none : (defined : List Bool) (lists : List Places) → defined ≡ replicate 4096 false → lists ≡ replicate 4096 [] → AreSlots defined lists
 slots_none defined lists d l = record {
   flags = ap length d ∙ length-replicate 4096 false;
@@ -132,9 +139,11 @@ slots_none defined lists d l = record {
   none i (inl small) = get_or-replicate {A = Places} 4096 i [] [] small
   none i (inr large) = get_or_past (replicate {A = Places} 4096 []) i [] (omega (arith, length-replicate {A = Places} 4096 []))
 
+-- copies of a short run
 short_none : (none : Kept) → IsShortRun none → (n : ℕ) → All IsShortRun (replicate n none)
 short_none none s n = λ k d l. subst (λ r. IsShortRun r) (sym (get_or-replicate n k none d (omega (arith, length-replicate n none)))) s
 
+-- descriptors of which none was read
 pub runs_none : (none : Kept) (runs : List Kept) → IsShortRun none → runs ≡ replicate 4096 none → AreRuns runs None
 runs_none none runs s e = record {
   room = ap length e ∙ length-replicate 4096 none;
@@ -148,16 +157,19 @@ remap_some : (guest : ℕ) (defined : List Bool) (lists : List Places) (id offse
     → first_standing (remap_tests guest (regions_of defined lists) id offset pages numbers) ≡ first_standing ((range, fault.RangeBeyond) ∷ (bad, fault.BadPage) ∷ [])
 remap_some guest defined lists id offset pages numbers range bad l e r b = remap_first guest (regions_of defined lists) id offset pages numbers (Some (slice_index_or lists id [])) range bad l (defined_places-small defined lists id l ∙ slot_is defined lists id true e) r b
 
+-- REMAP_GMR2 where no region is defined
 pub remap_none : (guest : ℕ) (defined : List Bool) (lists : List Places) (id offset pages : ℕ) (numbers : List ℕ) → id < 4096 → slice_index_or defined id false ≡ false
     → first_standing (remap_tests guest (regions_of defined lists) id offset pages numbers) ≡ Some fault.NoRegion
 remap_none guest defined lists id offset pages numbers l e = remap_first guest (regions_of defined lists) id offset pages numbers None (nat_lt 0 (offset + pages)) (list_any (λ n. nat_le guest n) numbers) l (defined_places-small defined lists id l ∙ slot_is defined lists id false e) refl refl
 
+-- REMAP_GMR2 past the end
 pub remap_beyond : (guest : ℕ) (defined : List Bool) (lists : List Places) (id offset pages : ℕ) (numbers : List ℕ) → id < 4096 → slice_index_or defined id false ≡ true → length (slice_index_or lists id []) < offset + pages
     → first_standing (remap_tests guest (regions_of defined lists) id offset pages numbers) ≡ Some fault.RangeBeyond
 remap_beyond guest defined lists id offset pages numbers l e long = remap_some guest defined lists id offset pages numbers true (list_any (λ n. nat_le guest n) numbers) l e (test (length (slice_index_or lists id [])) (offset + pages) long) refl where
   test : (a b : ℕ) → a < b → nat_lt a b ≡ true
   test a b l = grind (arith, nat_tests)
 
+-- REMAP_GMR2 within the region, by its page numbers
 pub remap_by_page : (guest : ℕ) (defined : List Bool) (lists : List Places) (id offset pages : ℕ) (numbers : List ℕ) (bad : Bool) → id < 4096 → slice_index_or defined id false ≡ true → offset + pages ≤ length (slice_index_or lists id []) → list_any (λ n. nat_le guest n) numbers ≡ bad
     → first_standing (remap_tests guest (regions_of defined lists) id offset pages numbers) ≡ cond bad (Some fault.BadPage) None
 remap_by_page guest defined lists id offset pages numbers bad l e fits b = remap_some guest defined lists id offset pages numbers false bad l e (test (length (slice_index_or lists id [])) (offset + pages) fits) b where

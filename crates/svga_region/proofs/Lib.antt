@@ -6,3 +6,4 @@ pub mod PlaceLaws
 pub mod PutLaws
 pub mod TableLaws
 pub mod WalkLaws
+pub mod WholeLaws

@@ -1,15 +1,17 @@
 -- Lists with other values from an offset on, and lists in a list.
-use Rattle.std.proofs.Common.{◌≡◌, ◌≢◌, ℕ, suc, ◌+◌, ◌-◌, ◌<◌, ◌≤◌, refl, sym, ap, ◌∙◌, List, [], ◌∷◌, ◌++◌, length, map, take, drop, slice_index_or, slice_set, arith, add-one, append_assoc, length-append, length-take, length-drop, Bool, true, false, ◌||◌, Option, Some, None, get_or-set_same, append-nil, replicate}
+use Rattle.std.proofs.Common.{◌≡◌, ℕ, suc, ◌+◌, ◌<◌, ◌≤◌, refl, sym, ap, ◌∙◌, List, [], ◌∷◌, ◌++◌, length, map, take, drop, slice_index_or, slice_set, arith, append_assoc, length-append, length-take, length-drop, Bool, ◌||◌, Option, None, get_or-set_same, append-nil, replicate}
 use Rattle.std.proofs.Math.Seq.{take-append_seam, drop-append-add, drop-cons, set-append_seam}
 use Rattle.std.proofs.lemmas.List.{set-set, set-get_or, length-replicate, drop-drop, drop_all, take-append-drop}
 use Rattle.std.specs.List.{list_any}
 use Rattle.svga_cmd.specs.declared.page.PageKey.{PageKey}
 use Rattle.svga_model.specs.Regions.{Places, remapped}
 
+-- a test of mapped elements
 pub list_any-map : {X Y : Type 0} (p : Y → Bool) (f : X → Y) (xs : List X) → list_any p (map f xs) ≡ list_any (λ x. p (f x)) xs
 list_any-map p f [] = refl
 list_any-map p f (x ∷ xs) = ap (λ b. p (f x) || b) (list_any-map p f xs)
 
+-- other values leave the length
 pub length-remapped : (xs : Places) (at : ℕ) (ys : Places) → at + length ys ≤ length xs → length (remapped xs at ys) ≡ length xs
 length-remapped xs at ys fits = omega (arith, length-append (take at xs ++ ys) (drop (at + length ys) xs), length-append (take at xs) ys, length-take at xs, length-drop (at + length ys) xs)
 
@@ -25,6 +27,7 @@ remapped_more xs at k ys y is fits = ap (λ t. slice_set ((take at xs ++ ys) ++ 
     front : length (take at xs ++ ys) ≡ at + k
     front = omega (arith, length-append (take at xs) ys, length-take at xs)
 
+-- no values leave the list
 pub remapped_none : (xs : Places) (at : ℕ) → remapped xs at [] ≡ xs
 remapped_none xs at = ap (λ t. t ++ drop (at + 0) xs) (append-nil (take at xs)) ∙ ap (λ n. take at xs ++ drop n xs) (let e : at + 0 ≡ at = omega arith in e) ∙ take-append-drop at xs
 
@@ -56,6 +59,7 @@ put_more initial lists slot at k ys y within is fits e =
     done : Places
     done = remapped (slice_index_or initial slot []) at ys
 
+-- many values behind those that were put
 pub put_on : (initial lists : List Places) (slot k : ℕ) (ys zs : Places) → slot < length initial → k ≡ length ys
     → lists ≡ slice_set initial slot (remapped (slice_index_or initial slot []) 0 ys)
     → slice_set lists slot (remapped (slice_index_or lists slot []) k zs) ≡ slice_set initial slot (remapped (slice_index_or initial slot []) 0 (ys ++ zs))

@@ -1,5 +1,5 @@
 -- The pages that are put place by place.
-use Rattle.std.proofs.Common.{◌≡◌, ℕ, suc, ◌+◌, ◌*◌, ◌<◌, ◌≤◌, refl, sym, ap, ◌∙◌, List, [], ◌∷◌, ◌++◌, length, map, take, slice_index, slice_index_or, arith, length-append, length-take, append-nil, replicate, Some, All, true, slice_set}
+use Rattle.std.proofs.Common.{◌≡◌, ℕ, ◌+◌, ◌<◌, ◌≤◌, refl, sym, ap, ◌∙◌, List, [], ◌∷◌, ◌++◌, length, map, take, slice_index, slice_index_or, arith, length-append, append-nil, Some, true, slice_set}
 use Rattle.std.proofs.lemmas.Bool.Decides.{nat_tests}
 use Rattle.std.proofs.lemmas.Grind.{flat_map-append}
 use Rattle.std.proofs.lemmas.List.{take_more, take_more_set, length-map, map-append, length-replicate}
@@ -7,23 +7,25 @@ use Rattle.std.proofs.lemmas.List.FromFn.{length-range_with_len, map-range_with_
 use Rattle.std.proofs.lemmas.List.Folds.{length-flat_map-take}
 use Rattle.std.specs.List.{flat_map, range_with_len}
 use Rattle.svga_cmd.specs.WellFormed.{HasEntries}
-use Rattle.svga_cmd.specs.declared.page.PageKey.{PageKey}
 use Rattle.svga_cmd.specs.declared.page.PageKey.TheVariants.{Guest}
 use Rattle.svga_cmd.specs.declared.remap.RemapData.{RemapData}
 use Rattle.svga_cmd.specs.declared.remap.RemapData.TheVariants.{Ppn32, Ppn64, SinglePpn32, SinglePpn64, ViaGmr32, ViaGmr64}
-use Rattle.svga_model.specs.Regions.{Places, guest_places, joined_words, range_pages}
+use Rattle.svga_model.specs.Regions.{guest_places, joined_words, range_pages}
 use Rattle.svga_model.specs.Walks.{descriptor_in, is_good_run, run_pages}
 use Rattle.svga_region.proofs.EntryLaws.{length-joined_list}
 use Rattle.svga_region.specs.Conditions.{AreNamed}
-use Rattle.svga_region.specs.Kept.{kept_pages, table_pages, as_descriptor, IsShortRun}
+use Rattle.svga_region.specs.Kept.{kept_pages, table_pages, as_descriptor}
 use Rattle.svga_region.specs.declared.descriptor.Descriptor.{Descriptor as Kept}
 
+-- a place for each number
 pub length-guest_places : (numbers : List ℕ) → length (guest_places numbers) ≡ length numbers
 length-guest_places numbers = length-map numbers (λ n. Some (Guest n))
 
+-- the places of numbers behind numbers
 pub guest_places-append : (xs ys : List ℕ) → guest_places (xs ++ ys) ≡ guest_places xs ++ guest_places ys
 guest_places-append xs ys = map-append (λ n. Some (Guest n)) xs ys
 
+-- a page number for each place of the range
 pub length-range_pages : (entries : RemapData) (pages : ℕ) → AreNamed entries → HasEntries entries pages → length (range_pages entries pages) ≡ pages
 length-range_pages (Ppn32 list) pages named fits = fits
 length-range_pages (Ppn64 list) pages named fits = length-joined_list list pages
@@ -36,6 +38,7 @@ length-range_pages (ViaGmr64 pointer) pages named fits = absurd named
 pub guest_places-take : (numbers : List ℕ) (k : ℕ) → k < length numbers → guest_places (take k numbers) ++ Some (Guest (slice_index numbers k)) ∷ [] ≡ guest_places (take (k + 1) numbers)
 guest_places-take numbers k l = sym (ap guest_places (take_more numbers k 0 l) ∙ guest_places-append (take k numbers) (slice_index numbers k ∷ []))
 
+-- one page of a run more
 pub guest_places-range : (page k : ℕ) → guest_places (range_with_len page k) ++ Some (Guest (page + k)) ∷ [] ≡ guest_places (range_with_len page (k + 1))
 guest_places-range page k = sym (map-range_with_len_more (λ n. Some (Guest n)) page k (page + k) refl)
 
@@ -44,6 +47,7 @@ pub kept_pages-take : (runs : List Kept) (i : ℕ) (d : Kept) → i < length run
 kept_pages-take runs i d l = ap kept_pages (take_more runs i d l) ∙ flat_map-append (λ k. run_pages (as_descriptor k)) (take i runs) (slice_index_or runs i d ∷ [])
     ∙ ap (λ t. kept_pages (take i runs) ++ t) (append-nil (run_pages (as_descriptor (slice_index_or runs i d))))
 
+-- how many pages that are
 pub length-kept_pages-take : (runs : List Kept) (i : ℕ) (d : Kept) → i < length runs → length (kept_pages (take (i + 1) runs)) ≡ length (kept_pages (take i runs)) + (slice_index_or runs i d).count
 length-kept_pages-take runs i d l = let run = slice_index_or runs i d in
     ap length (kept_pages-take runs i d l) ∙ length-append (kept_pages (take i runs)) (run_pages (as_descriptor run)) ∙ ap (λ n. length (kept_pages (take i runs)) + n) (length-range_with_len run.page run.count)

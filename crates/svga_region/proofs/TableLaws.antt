@@ -1,10 +1,10 @@
 -- What a table page more does to a chain, by how its reading ends.
-use Rattle.std.proofs.Common.{◌≡◌, ℕ, zero, suc, ◌+◌, ◌-◌, ◌*◌, ◌<◌, ◌≤◌, refl, sym, ap, subst, ◌∙◌, Option, Some, None, List, [], ◌∷◌, ◌++◌, length, arith, nat_lt, nat_le, not, ◌==◌, ◌&&◌, ◌||◌, Bool, true, false, cond, Result, Ok, Err}
+use Rattle.std.proofs.Common.{◌≡◌, ℕ, suc, ◌+◌, ◌-◌, ◌<◌, ◌≤◌, refl, sym, ap, ◌∙◌, Some, None, List, [], ◌∷◌, ◌++◌, arith, nat_lt, nat_le, not, ◌==◌, ◌&&◌, Bool, true, false, cond}
 use Rattle.std.proofs.lemmas.Bool.Decides.{nat_tests}
 use Rattle.svga_cmd.specs.declared.fault.Fault.{Fault}
 use Rattle.svga_cmd.specs.declared.fault.Fault.TheVariants as fault
 use Rattle.svga_model.specs.Standing.{first_standing}
-use Rattle.svga_model.specs.Walks.{Tables, TablePlace, Descriptor, descriptor_in, is_end, is_link, is_run, is_good_link, is_good_run, is_bad, next_place, places_from, run_pages, last_tests, unless}
+use Rattle.svga_model.specs.Walks.{Tables, TablePlace, Descriptor, descriptor_in, is_end, is_good_link, is_good_run, is_bad, next_place, places_from, run_pages, last_tests, unless}
 use Rattle.svga_region.proofs.WalkLaws.{place_on, AreGoodRuns, places_from-none, places_from-zero, entered_stops, outcome_stops, entered_goes, entered_next, outcome_goes_on}
 use Rattle.svga_region.specs.Chains.{Ends, Fails, GoesOn}
 use Rattle.svga_region.specs.Kept.{table_pages}
@@ -14,42 +14,55 @@ use Rattle.svga_region.specs.RegionSet.{Chain}
 good_link : (guest : ℕ) (d : Descriptor) → is_good_run guest d ≡ true → is_good_link guest d ≡ false
 good_link guest d good = grind (arith, nat_tests)
 
+-- a good run is not bad
 good_bad : (guest : ℕ) (d : Descriptor) → is_good_run guest d ≡ true → is_bad guest d ≡ false
 good_bad guest d good = grind (arith, nat_tests)
 
+-- a good run is not the end
 good_end : (guest : ℕ) (d : Descriptor) → is_good_run guest d ≡ true → is_end d ≡ false
 good_end guest d good = grind (arith, nat_tests)
 
+-- a run is no link
 long_link : (guest : ℕ) (d : Descriptor) → 0 < d.count → is_good_link guest d ≡ false
 long_link guest d l = grind (arith, nat_tests)
 
+-- a run that is not good is bad
 long_bad : (guest : ℕ) (d : Descriptor) → 0 < d.count → is_good_run guest d ≡ false → is_bad guest d ≡ true
 long_bad guest d l bad = grind (arith, nat_tests)
 
+-- a descriptor without a count is no run
 short_run : (guest : ℕ) (d : Descriptor) → d.count ≡ 0 → is_good_run guest d ≡ false
 short_run guest d e = grind (arith, nat_tests)
 
+-- a link past the guest is not good
 far_link : (guest : ℕ) (d : Descriptor) → guest ≤ d.page → is_good_link guest d ≡ false
 far_link guest d l = grind (arith, nat_tests)
 
+-- a link past the guest is bad
 far_bad : (guest : ℕ) (d : Descriptor) → d.count ≡ 0 → 0 < d.page → guest ≤ d.page → is_bad guest d ≡ true
 far_bad guest d e p l = grind (arith, nat_tests)
 
+-- a link to a guest page is good
 near_link : (guest : ℕ) (d : Descriptor) → d.count ≡ 0 → 0 < d.page → d.page < guest → is_good_link guest d ≡ true
 near_link guest d e p l = grind (arith, nat_tests)
 
+-- a link to a guest page is not bad
 near_bad : (guest : ℕ) (d : Descriptor) → d.count ≡ 0 → d.page < guest → is_bad guest d ≡ false
 near_bad guest d e l = grind (arith, nat_tests)
 
+-- a link is not the end
 near_end : (d : Descriptor) → 0 < d.page → is_end d ≡ false
 near_end d p = grind (arith, nat_tests)
 
+-- page 0 is no link
 none_link : (guest : ℕ) (d : Descriptor) → d.page ≡ 0 → is_good_link guest d ≡ false
 none_link guest d e = grind (arith, nat_tests)
 
+-- (0, 0) is the end
 none_end : (d : Descriptor) → d.page ≡ 0 → d.count ≡ 0 → is_end d ≡ true
 none_end d e f = grind (arith, nat_tests)
 
+-- (0, 0) is not bad
 none_bad : (guest : ℕ) (d : Descriptor) → d.page ≡ 0 → d.count ≡ 0 → is_bad guest d ≡ false
 none_bad guest d e f = grind (arith, nat_tests)
 
@@ -61,21 +74,25 @@ no_next guest at d link run = λ j. cond (link j) (Some (place_on d.page 0)) (co
 last_bad : (guest m : ℕ) (at : TablePlace) (d : Descriptor) → is_bad guest d ≡ true → first_standing (last_tests guest m at d) ≡ Some fault.BadPage
 last_bad guest m at d bad = λ i. first_standing ((bad i, fault.BadPage) ∷ (is_good_run guest d && at.pair == 511, fault.ChainEnd) ∷ (nat_le 4096 m && not (is_end d), fault.ChainLimit) ∷ [])
 
+-- a good run as descriptor 511
 last_on_page : (guest m : ℕ) (at : TablePlace) (d : Descriptor) → is_good_run guest d ≡ true → at.pair ≡ 511 → first_standing (last_tests guest m at d) ≡ Some fault.ChainEnd
 last_on_page guest m at d good last =
     let bad = good_bad guest d good in
     let pair : (at.pair == 511) ≡ true = grind (arith, nat_tests) in
     λ i. first_standing ((bad i, fault.BadPage) ∷ (good i && pair i, fault.ChainEnd) ∷ (nat_le 4096 m && not (is_end d), fault.ChainLimit) ∷ [])
 
+-- the 4,096th descriptor
 last_of_all : (guest m : ℕ) (at : TablePlace) (d : Descriptor) → is_bad guest d ≡ false → (is_good_run guest d && at.pair == 511) ≡ false → is_end d ≡ false → m ≡ 4096 → first_standing (last_tests guest m at d) ≡ Some fault.ChainLimit
 last_of_all guest m at d bad inside more all =
     let limit : nat_le 4096 m ≡ true = grind (arith, nat_tests) in
     λ i. first_standing ((bad i, fault.BadPage) ∷ (inside i, fault.ChainEnd) ∷ (limit i && not (more i), fault.ChainLimit) ∷ [])
 
+-- no test is true beside a false one
 off : (b : Bool) → (b && false) ≡ false
 off true = refl
 off false = refl
 
+-- the end
 last_end : (guest m : ℕ) (at : TablePlace) (d : Descriptor) → is_bad guest d ≡ false → is_good_run guest d ≡ false → is_end d ≡ true → first_standing (last_tests guest m at d) ≡ None
 last_end guest m at d bad run end =
     let limit = ap (λ e. nat_le 4096 m && not e) end ∙ off (nat_le 4096 m) in
@@ -186,6 +203,7 @@ module _ (guest : ℕ) (tables : Tables) (p : ℕ) (c : Chain) (bytes : List ℕ
         record {
           id = id;
           wants = wanted;
+          page = near;
           more = omega arith;
           few = omega arith;
           entered = entered_goes guest tables p c k n wants left (omega arith) runs d.page m e on longer wanted counted;

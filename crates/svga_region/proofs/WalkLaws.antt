@@ -1,18 +1,17 @@
 -- The walk of a chain, one table page at a time.
-use Rattle.std.proofs.Common.{◌≡◌, ◌≢◌, ℕ, zero, suc, ◌+◌, ◌-◌, ◌*◌, ◌<◌, ◌≤◌, refl, sym, ap, subst, ◌∙◌, Option, Some, None, List, [], ◌∷◌, ◌++◌, length, map, arith, add-one, append-nil, append_assoc, length-append, nat_lt, nat_le, not, ◌==◌, ◌&&◌, ◌||◌, Bool, true, false, cond, Result, Ok, Err}
+use Rattle.std.proofs.Common.{◌≡◌, ℕ, zero, suc, ◌+◌, ◌-◌, ◌<◌, ◌≤◌, refl, sym, ap, ◌∙◌, Option, Some, None, List, [], ◌∷◌, ◌++◌, length, map, arith, append-nil, append_assoc, length-append, nat_lt, ◌==◌, ◌&&◌, true, false, cond}
 use Rattle.std.proofs.lemmas.Bool.Decides.{nat_tests}
 use Rattle.std.proofs.lemmas.Grind.{flat_map-append}
 use Rattle.std.proofs.lemmas.List.FromFn.{length-map-range_with_len}
 use Rattle.std.specs.List.{flat_map, range_with_len, cons_option}
-use Rattle.svga_cmd.specs.declared.fault.Fault.{Fault}
-use Rattle.svga_cmd.specs.declared.fault.Fault.TheVariants as fault
 use Rattle.svga_model.specs.Standing.{first_standing}
-use Rattle.svga_model.specs.Walks.{Tables, TablePlace, Descriptor, descriptor_in, descriptor_at, is_end, is_link, is_run, is_good_link, is_good_run, is_bad, next_place, places_from, entered, run_pages, listed_pages, last_of, last_tests, unless, outcome_after}
+use Rattle.svga_model.specs.Walks.{Tables, TablePlace, Descriptor, descriptor_in, descriptor_at, is_good_link, is_good_run, next_place, places_from, entered, run_pages, listed_pages, last_of, last_tests, unless, outcome_after}
 use Rattle.std.specs.Prelude.{option_map}
 use Rattle.svga_region.specs.Chains.{places_left, entered_left, outcome_left}
 use Rattle.svga_region.specs.Kept.{table_pages}
 use Rattle.svga_region.specs.RegionSet.{Chain}
 
+-- a place of table page p
 abbrev pub place_on : ℕ → ℕ → TablePlace
 place_on p k = record { table = p; pair = k }
 
@@ -24,6 +23,7 @@ places_on p i k = map (λ j. place_on p j) (range_with_len i k)
 abbrev pub AreGoodRuns : ℕ → List ℕ → ℕ → ℕ → Type 0
 AreGoodRuns guest bytes i k = (j : ℕ) → i ≤ j → j < i + k → is_good_run guest (descriptor_in bytes j) ≡ true
 
+-- a good run is no link
 no_link : (guest page count : ℕ) → is_good_run guest (record { page = page; count = count }) ≡ true → is_good_link guest (record { page = page; count = count }) ≡ false
 no_link guest page count good = grind (arith, nat_tests)
 
@@ -34,15 +34,18 @@ next_place-run guest p i d l good =
     let within : nat_lt i 511 ≡ true = grind (arith, nat_tests) in
     λ j. cond (link j) (Some (place_on d.page 0)) (cond (good j && within j) (Some (place_on p (i + 1))) None)
 
+-- no places from none
 pub places_from-none : (n guest : ℕ) (tables : Tables) → places_from n guest tables None ≡ []
 unfolding places_from
 places_from-none zero guest tables = refl
 places_from-none (suc n) guest tables = refl
 
+-- no places where none may come
 pub places_from-zero : (guest : ℕ) (tables : Tables) (at : Option TablePlace) → places_from 0 guest tables at ≡ []
 unfolding places_from
 places_from-zero guest tables at = refl
 
+-- a place, and those behind it
 pub places_from-some : (n guest : ℕ) (tables : Tables) (at : TablePlace) → places_from (suc n) guest tables (Some at) ≡ at ∷ places_from n guest tables (next_place guest at (descriptor_at tables at))
 unfolding places_from
 places_from-some n guest tables at = refl
@@ -62,6 +65,7 @@ places_from-runs (suc k) guest tables p i m n e l good =
 entered_past : (p i : ℕ) (rest : List TablePlace) → 0 < i → entered (place_on p i ∷ rest) ≡ entered rest
 entered_past p i rest l = ap (λ t. cons_option (cond t (Some p) None) (entered rest)) (let f : (i == 0) ≡ false = grind (arith, nat_tests) in f)
 
+-- places past the first of their page enter none
 entered_run : (p i k : ℕ) (rest : List TablePlace) → 0 < i → entered (places_on p i k ++ rest) ≡ entered rest
 entered_run p i zero rest l = refl
 entered_run p i (suc k) rest l = entered_past p i (places_on p (i + 1) k ++ rest) l ∙ entered_run p (i + 1) k rest (omega arith)
@@ -76,6 +80,7 @@ flat_map-map : {X Y Z : Type 0} (f : Y → List Z) (g : X → Y) (xs : List X) �
 flat_map-map f g [] = refl
 flat_map-map f g (x ∷ xs) = ap (λ t. f (g x) ++ t) (flat_map-map f g xs)
 
+-- they list what the page lists
 listed_table : (tables : Tables) (p k : ℕ) → listed_pages tables (places_on p 0 k) ≡ table_pages (tables p) k
 listed_table tables p k = flat_map-map (λ at. run_pages (descriptor_at tables at)) (place_on p) (range_with_len 0 k) ∙ sym (flat_map-map run_pages (descriptor_in (tables p)) (range_with_len 0 k))
 
@@ -103,6 +108,7 @@ outcome_ends guest tables count pages p k =
     outcome_after-append guest tables count pages (places_on p 0 k) (place_on p k) []
     ∙ (λ i. unless (first_standing (last_tests guest (count + length-map-range_with_len (place_on p) 0 k i + 1) (place_on p k) (descriptor_in (tables p) k))) ((pages ++ listed_table tables p k i) ++ append-nil (run_pages (descriptor_in (tables p) k)) i))
 
+-- what a walk gives that goes on from there
 pub outcome_goes : (guest : ℕ) (tables : Tables) (count : ℕ) (pages : List ℕ) (p k : ℕ) (next : TablePlace) (rest : List TablePlace)
     → outcome_after guest tables count pages (places_on p 0 k ++ place_on p k ∷ next ∷ rest)
     ≡ outcome_after guest tables (count + k + 1) ((pages ++ table_pages (tables p) k) ++ run_pages (descriptor_in (tables p) k)) (next ∷ rest)
@@ -123,6 +129,7 @@ module _ (guest : ℕ) (tables : Tables) (p : ℕ) (c : Chain) (k n : ℕ) (want
   pub entered_stops : places_from n guest tables (next_place guest (place_on p k) (descriptor_in (tables p) k)) ≡ [] → entered_left guest tables c ≡ p ∷ []
   entered_stops none = ap entered (places_left-table ∙ ap (λ t. places_on p 0 k ++ place_on p k ∷ t) none) ∙ entered_table p k []
 
+  -- what it gives then
   pub outcome_stops : places_from n guest tables (next_place guest (place_on p k) (descriptor_in (tables p) k)) ≡ []
       → outcome_left guest tables c ≡ unless (first_standing (last_tests guest (c.count + k + 1) (place_on p k) (descriptor_in (tables p) k))) ((c.pages ++ table_pages (tables p) k) ++ run_pages (descriptor_in (tables p) k))
   outcome_stops none = ap (outcome_after guest tables c.count c.pages) (places_left-table ∙ ap (λ t. places_on p 0 k ++ place_on p k ∷ t) none) ∙ outcome_ends guest tables c.count c.pages p k

@@ -30,6 +30,7 @@ outcome_left guest tables c = outcome_after guest tables c.count c.pages (places
 pub record GoesOn (guest : ℕ) (tables : Tables) (p : ℕ) (c : Chain) (q : ℕ) (d : Chain) : Type 0 where
   pub id : d.id ≡ c.id
   pub wants : d.wants ≡ Some q
+  pub page : q < guest
   pub more : c.count < d.count
   pub few : d.count < 4096
   pub entered : entered_left guest tables c ≡ p ∷ entered_left guest tables d

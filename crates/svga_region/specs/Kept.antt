@@ -12,6 +12,7 @@ use Rattle.svga_region.specs.RegionSet.{Chain}
 abbrev pub slot_of : List Bool → List Places → ℕ → Option Places
 slot_of defined lists i = if slice_index_or defined i false then Some (slice_index_or lists i []) else None
 
+-- the regions that the slots have
 abbrev pub regions_of : List Bool → List Places → Regions
 regions_of defined lists = tabulated 4096 (slot_of defined lists)
 
@@ -26,6 +27,7 @@ pub record AreSlots (defined : List Bool) (lists : List Places) : Type 0 where
   pub empty : AreEmpty defined lists
   pub total : sum_by length lists ≤ 65536
 
+-- a descriptor as it is kept
 abbrev pub as_descriptor : Kept → Descriptor
 as_descriptor k = record { page = k.page; count = k.count }
 
@@ -41,6 +43,7 @@ table_pages bytes k = flat_map run_pages (map_list (λ j. descriptor_in bytes j)
 abbrev pub IsShortRun : Kept → Type 0
 IsShortRun k = k.page + k.count ≤ 16384
 
+-- the chain that is being read, with the pages that were listed so far
 abbrev pub chain_of : List Kept → Reading → Chain
 chain_of runs r = record { id = r.id; count = r.count; pages = kept_pages (take r.count runs); wants = r.wants }
 

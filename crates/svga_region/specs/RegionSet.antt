@@ -20,8 +20,10 @@ pub record RegionSet : Type 0 where
   pub regions : Regions
   pub chain : Option Chain
 
+-- the code of a chain, by which a type that is seen as one tells its values apart
 abbrev pub coded_chain : Coded Chain
 coded_chain = code_by (ℕ × (ℕ × (List ℕ × Option ℕ))) (coded× coded_ℕ (coded× coded_ℕ (coded× (coded_list coded_ℕ) (coded_option coded_ℕ)))) (λ c. (c.id, (c.count, (c.pages, c.wants)))) (λ p. record { id = p.0; count = p.1.0; pages = p.1.1.0; wants = p.1.1.1 }) (λ _. refl)
 
+-- the code of the regions
 abbrev pub coded_set : Coded RegionSet
 coded_set = code_by (ℕ × (ℕ × (Regions × Option Chain))) (coded× coded_ℕ (coded× coded_ℕ (coded× coded_regions (coded_option coded_chain)))) (λ r. (r.guest, (r.frame, (r.regions, r.chain)))) (λ p. record { guest = p.0; frame = p.1.0; regions = p.1.1.0; chain = p.1.1.1 }) (λ _. refl)

@@ -10,6 +10,10 @@ mod entries;
 mod placing;
 mod regions;
 mod table;
+#[cfg(test)]
+mod tests;
+#[cfg(test)]
+mod whole_chain;
 
 pub use chain::ChainNext;
 pub use regions::Regions;

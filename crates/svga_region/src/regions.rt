@@ -7,7 +7,7 @@ ghost use Rattle.svga_cmd.specs.Limits.{IsBetween};
 ghost use Rattle.svga_cmd.specs.WellFormed.{HasEntries};
 ghost use Rattle.svga_cmd.specs.declared.fault.Fault.TheVariants as fault;
 ghost use Rattle.svga_model.specs.RegionBytes.{byte_tests, byte_location, is_beyond, is_unmapped, located};
-ghost use Rattle.svga_model.specs.Regions.{places_of, define_tests, with_region, remap_tests, with_remap, named_pages, range_pages};
+ghost use Rattle.svga_model.specs.Regions.{places_of, id_tests, define_tests, with_region, remap_tests, with_remap, named_pages, range_pages};
 ghost use Rattle.svga_model.specs.Standing.{first_standing};
 ghost use Rattle.svga_model.specs.Walks.{start_tests, list_tests, with_pages};
 ghost use Rattle.svga_region.specs.Chains.{Answers, begun_chain};
@@ -76,6 +76,8 @@ impl Regions {
     /// Makes so many unmapped places and drops an older list; 0 deletes.
     pub fn define(&mut self, id: u32, pages: u32) -> Result<(), Fault>
         ensures fault { result_err result ≡ first_standing (define_tests self.old.regions id pages) }
+        // A region that is deleted needs no room.
+        ensures deletion { pages ≡ 0 → result_err result ≡ first_standing (id_tests id) }
         ensures ok { OnOk result (self.new ≡ record self.old { regions = with_region self.old.regions id pages }) }
         ensures err { OnErr result (self.new ≡ self.old) }
     {

@@ -5,5 +5,7 @@
 
 mod rows;
 mod shift;
+#[cfg(test)]
+mod tests;
 
 pub use rows::Rows;

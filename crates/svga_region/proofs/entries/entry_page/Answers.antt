@@ -1,4 +1,4 @@
-use Rattle.std.proofs.Common.{◌≡◌, ap, ◌∙◌, sym, ℕ, Bool, false, nat_le, slice_index}
+use Rattle.std.proofs.Common.{ap, ◌∙◌, sym, nat_le, slice_index}
 use Rattle.std.specs.List.{list_any}
 use Rattle.svga_cmd.specs.Lent.{entries_of}
 use Rattle.svga_model.specs.Regions.{named_pages, range_pages}

@@ -1,4 +1,4 @@
-use Rattle.std.proofs.Common.{◌≡◌, ◌+◌, ◌*◌, ap, ◌∙◌, sym, nat_le, slice_index, rules}
+use Rattle.std.proofs.Common.{◌+◌, ◌*◌, ap, ◌∙◌, sym, nat_le, slice_index}
 use Rattle.std.specs.List.{list_any, range_with_len}
 use Rattle.svga_cmd.specs.Lent.{entries_of}
 use Rattle.svga_model.specs.Regions.{joined_words, named_pages}

@@ -1,4 +1,4 @@
-use Rattle.std.proofs.Common.{◌≡◌, ◌+◌, ◌*◌, ◌≤◌, arith, length}
+use Rattle.std.proofs.Common.{arith}
 use Rattle.svga_region.proofs.PutLaws.{length-kept_pages-take}
 use Rattle.svga_region.proofs.placing.listed_count.Goals as goal
 

@@ -1,4 +1,4 @@
-use Rattle.std.proofs.Common.{◌≡◌, ◌+◌, ◌∙◌, sym, ap, refl, take, length, arith, length-take, Some, slice_set, [], ◌∷◌, ◌++◌, ◌<◌, ◌≤◌}
+use Rattle.std.proofs.Common.{◌≡◌, ◌∙◌, ap, refl, take, length, arith, length-take, Some, slice_set, [], ◌∷◌, ◌++◌}
 use Rattle.std.proofs.lemmas.List.{take_all}
 use Rattle.svga_cmd.specs.Lent.{entries_of}
 use Rattle.svga_cmd.specs.declared.page.PageKey.TheVariants.{Guest}

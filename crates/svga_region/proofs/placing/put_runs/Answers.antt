@@ -1,5 +1,4 @@
-use Rattle.std.proofs.Common.{◌≡◌, ◌+◌, ◌*◌, ◌≤◌, ◌∙◌, sym, ap, refl, take, length, arith, slice_set}
-use Rattle.std.proofs.lemmas.List.{take_all}
+use Rattle.std.proofs.Common.{◌∙◌, sym, ap, refl, take, arith, slice_set}
 use Rattle.svga_model.specs.Regions.{guest_places, remapped}
 use Rattle.svga_model.specs.Walks.{run_pages}
 use Rattle.svga_rows.specs.Rows.{list_at}

@@ -1,8 +1,7 @@
-use Rattle.std.proofs.Common.{◌≡◌, ℕ, ◌+◌, ◌<◌, ◌≤◌, ◌++◌, ◌∙◌, sym, ap, refl, take, arith, length, slice_set, All}
+use Rattle.std.proofs.Common.{◌+◌, ◌<◌, ◌++◌, ◌∙◌, ap, refl, arith}
 use Rattle.std.proofs.lemmas.List.Elements.{All-set}
-use Rattle.svga_model.specs.Walks.{descriptor_in, is_good_run, run_pages}
-use Rattle.svga_region.specs.Kept.{IsShortRun, as_descriptor, chain_of, kept_pages, table_pages}
-use Rattle.svga_region.specs.RegionSet.{Chain}
+use Rattle.svga_model.specs.Walks.{is_good_run, run_pages}
+use Rattle.svga_region.specs.Kept.{IsShortRun, as_descriptor, chain_of}
 use Rattle.svga_region.proofs.PutLaws.{kept_pages-set}
 use Rattle.svga_region.proofs.TableLaws.{fails_on_page, fails_in_runs, fails_run, fails_link, fails_at_link, ends, goes}
 use Rattle.svga_region.proofs.table.read_table.Goals as goal

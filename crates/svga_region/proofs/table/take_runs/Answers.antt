@@ -1,6 +1,6 @@
-use Rattle.std.proofs.Common.{◌≡◌, ℕ, ◌+◌, ◌<◌, ◌≤◌, ◌++◌, ◌∙◌, sym, ap, take, true, arith, below_more, length, slice_set, append_assoc}
+use Rattle.std.proofs.Common.{◌≡◌, ◌+◌, ◌++◌, ◌∙◌, sym, ap, take, arith, below_more, slice_set, append_assoc}
 use Rattle.std.proofs.lemmas.List.Elements.{All-set}
-use Rattle.svga_model.specs.Walks.{descriptor_in, is_good_run, run_pages}
+use Rattle.svga_model.specs.Walks.{is_good_run, run_pages}
 use Rattle.svga_region.specs.Kept.{IsShortRun, as_descriptor, kept_pages, table_pages}
 use Rattle.svga_region.proofs.PutLaws.{kept_pages-set, table_pages-more, short_good}
 use Rattle.svga_region.proofs.table.take_runs.Goals as goal

@@ -1,4 +1,4 @@
-use Rattle.std.proofs.Common.{◌≡◌, ℕ, ◌+◌, ◌<◌, ◌≤◌, ◌++◌, take, true, All, length}
+use Rattle.std.proofs.Common.{◌≡◌, ℕ, ◌+◌, ◌<◌, ◌≤◌, ◌++◌, take, true, All}
 use Rattle.svga_model.specs.Walks.{descriptor_in, is_good_run}
 use Rattle.svga_region.specs.Kept.{IsShortRun, kept_pages, table_pages}
 use Rattle.svga_region.proofs.table.take_runs.Given as goal

@@ -1,10 +1,9 @@
-use Rattle.std.proofs.Common.{◌≡◌, ℕ, ◌+◌, ◌<◌, ◌∙◌, sym, ap, Some, None, List, [], length, arith, take, true, slice_set, slice_index_or, replicate}
+use Rattle.std.proofs.Common.{◌≡◌, ◌∙◌, sym, ap, None, [], length, arith, take, true, slice_set, slice_index_or, replicate}
 use Rattle.std.specs.Prelude.{option_map}
 use Rattle.svga_model.specs.Regions.{guest_places, remapped}
 use Rattle.svga_model.specs.Standing.{first_standing}
 use Rattle.svga_model.specs.Walks.{list_tests, with_pages}
 use Rattle.svga_region.specs.Kept.{chain_of, kept_pages, regions_of}
-use Rattle.svga_region.specs.RegionSet.{Chain}
 use Rattle.svga_region.proofs.ChainLaws.{known, list_over, list_within}
 use Rattle.svga_region.proofs.DefineLaws.{place_count-slots, length_in-slot, regions_of-insert}
 use Rattle.svga_region.proofs.ListLaws.{put_whole}

@@ -1,7 +1,6 @@
-use Rattle.std.proofs.Common.{◌≡◌, ◌∙◌, sym, ap, Some, length, arith}
+use Rattle.std.proofs.Common.{◌≡◌, ◌∙◌, sym, ap, length, arith}
 use Rattle.std.specs.Prelude.{option_map}
 use Rattle.svga_region.specs.Kept.{chain_of}
-use Rattle.svga_region.specs.RegionSet.{Chain}
 use Rattle.svga_region.proofs.ChainLaws.{answer_ok, answer_err, lent_whole}
 use Rattle.svga_region.proofs.regions.Regions.chain_page.Goals as goal
 

@@ -1,6 +1,6 @@
-use Rattle.std.proofs.Common.{◌≡◌, ◌+◌, ◌-◌, ◌<◌, ◌==◌, not, length, sym, ap, ◌∙◌, arith, true, false, Some, None, slice_index_or, slice_set, [], refl, replicate, sum_by, Bool}
+use Rattle.std.proofs.Common.{◌==◌, not, length, sym, ap, ◌∙◌, arith, slice_set}
 use Rattle.std.specs.Prelude.{option_map}
-use Rattle.svga_model.specs.Regions.{define_tests, with_region, place_count, region_length}
+use Rattle.svga_model.specs.Regions.{define_tests, with_region}
 use Rattle.svga_model.specs.Standing.{first_standing}
 use Rattle.svga_region.specs.Kept.{regions_of, chain_of}
 use Rattle.svga_region.proofs.DefineLaws.{regions_of-define, place_count-slots, length_in-slot, define_over, define_within, twice}
@@ -28,3 +28,6 @@ returns-clause-ok c =
     ∙ regions_of-define c.self.inside.defined.items c.self.inside.lists.lists c.args.id c.args.pages flag (omega arith) c.self.invariant.2.flags c.self.invariant.2.lists_count (twice (c.args.pages == 0)) in
     (λ i. record { guest = c.self.inside.guest; frame = c.self.inside.frame; regions = same i; chain = chain })
     ∙ ap (λ r. record { guest = r.guest; frame = r.frame; regions = with_region r.regions c.args.id c.args.pages; chain = r.chain }) c.self.view_is
+
+pub returns-then-rest-pages-gt65536-clause-deletion : goal.returns-then-rest-pages-gt65536-clause-deletion
+returns-then-rest-pages-gt65536-clause-deletion c = λ none. absurd (omega (arith, c.self.invariant.2.total, c.total.ensures.total))

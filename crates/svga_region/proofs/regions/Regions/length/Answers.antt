@@ -1,4 +1,4 @@
-use Rattle.std.proofs.Common.{◌≡◌, ◌<◌, length, sym, ap, ◌∙◌, arith, true, false, Some, None, slice_index_or, [], refl}
+use Rattle.std.proofs.Common.{length, sym, ap, ◌∙◌, arith, true, false, Some}
 use Rattle.std.specs.Prelude.{option_map}
 use Rattle.svga_model.specs.Regions.{places_of}
 use Rattle.svga_region.specs.Kept.{regions_of}

@@ -1,4 +1,4 @@
-use Rattle.std.proofs.Common.{◌≡◌, ◌+◌, ◌<◌, ◌≤◌, sym, ap, ◌∙◌, arith, true, false, Some, None, slice_index_or, [], rules, subst, Option, ℕ, IfOk}
+use Rattle.std.proofs.Common.{◌≡◌, sym, ap, ◌∙◌, arith, Some, subst, Option, ℕ, IfOk}
 use Rattle.svga_cmd.specs.declared.page.PageKey.{PageKey}
 use Rattle.svga_model.specs.RegionBytes.{byte_tests, byte_location, located}
 use Rattle.svga_model.specs.Standing.{first_standing}

@@ -1,5 +1,4 @@
-use Rattle.std.proofs.Common.{◌≡◌, ◌∙◌, ap, sym, arith, refl, replicate, [], None, false, List}
-use Rattle.svga_model.specs.Regions.{Places}
+use Rattle.std.proofs.Common.{◌∙◌, ap, arith, None}
 use Rattle.svga_region.proofs.DefineLaws.{regions_of-empty, runs_none, slots_none}
 use Rattle.svga_region.specs.Kept.{regions_of}
 use Rattle.svga_region.proofs.regions.Regions.new.Goals as goal

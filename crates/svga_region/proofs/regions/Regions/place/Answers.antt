@@ -1,4 +1,4 @@
-use Rattle.std.proofs.Common.{◌≡◌, ◌<◌, length, sym, ap, subst, ◌∙◌, arith, true, false, Some, None, slice_index_or, unwrap_or, [], refl}
+use Rattle.std.proofs.Common.{length, sym, ap, subst, ◌∙◌, arith, None, slice_index_or, unwrap_or, []}
 use Rattle.svga_model.specs.Regions.{places_of}
 use Rattle.svga_region.specs.Conditions.{HasPlace}
 use Rattle.svga_region.specs.Kept.{regions_of}

@@ -1,4 +1,4 @@
-use Rattle.std.proofs.Common.{◌≡◌, ◌+◌, ◌<◌, ◌≤◌, length, sym, ap, subst, ◌∙◌, arith, true, false, Some, None, slice_index_or, slice_set, [], refl}
+use Rattle.std.proofs.Common.{length, sym, ap, subst, ◌∙◌, arith, true, false, slice_index_or, []}
 use Rattle.std.specs.Prelude.{option_map}
 use Rattle.svga_cmd.specs.Lent.{entries_of}
 use Rattle.svga_model.specs.Regions.{guest_places, named_pages, range_pages, remap_tests, remapped, with_remap}
