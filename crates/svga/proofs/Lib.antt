@@ -1,3 +1,4 @@
 mod BytesLaws
+mod Listed
 mod ListingLaws
 mod RunLaws

@@ -4,7 +4,7 @@ use Rattle.std.proofs.lemmas.Grind.{flat_map-append}
 use Rattle.std.proofs.lemmas.List.{drop_more, take_all, take_more, take-append-drop}
 use Rattle.std.proofs.lemmas.List.Elements.{All-take}
 use Rattle.std.specs.Prelude.{Option}
-use Rattle.svga.specs.Listing.{IsListed}
+use Rattle.svga.proofs.Listed.{IsListed}
 use Rattle.svga.specs.Texts.{listing}
 use Rattle.svga_cmd.specs.Spelling.{Spells, spelling}
 use Rattle.svga_cmd.specs.WellFormed.{IsWellFormed}

@@ -1,22 +1,20 @@
 -- How a run ends, from what its last call did.
-use Rattle.std.proofs.Common.{◌≡◌, ◌≢◌, ◌↔◌, ◌-◌, ◌⊎◌, IfSome, IsSome, inl, inr, ℕ, ◌≤◌, ◌<◌, ◌+◌, get_or, map, ◌∷◌, ◌/◌, ◌%◌, ◌==◌, List, [], length, Some, None, refl, sym, ap, subst, ◌∙◌, append-nil, arith, if◌then◌else◌}
-use Rattle.std.proofs.lemmas.Bool.Decides.{nat_tests}
+use Rattle.std.proofs.Common.{◌≡◌, ◌≢◌, ◌↔◌, ◌-◌, ◌⊎◌, IfSome, IsSome, inl, inr, ℕ, ◌≤◌, ◌<◌, ◌+◌, get_or, map, ◌∷◌, List, [], length, Some, None, refl, sym, ap, subst, ◌∙◌, append-nil, arith}
 use Rattle.std.specs.Prelude.{Option, String, string_bytes}
 use Rattle.std.specs.declared.alloc.Global.{Global}
 use Rattle.svga.specs.Bytes.{IsEndingOfBytes, IsSentenceInBytes, torn_by, words_in}
-use Rattle.svga.specs.Due.{IsDue, IsRun, IsWords, Reading, GivesAll, TakesAtMost, TakesMore, usage, listed, read_fault, too_long}
-use Rattle.svga.specs.Listing.{Tells}
-use Rattle.svga.specs.Texts.{words_status}
+use Rattle.svga.specs.Due.{AsksForWords, IsComplete, IsDue, IsRun, SourceTells, GivesAll, TakesAtMost, TakesMore, usage, listed, read_fault, too_long}
+use Rattle.svga.specs.Telling.{Tells}
+use Rattle.svga.specs.Texts.{words_status, words_text}
 use Rattle.svga_cmd.specs.declared.command.Command.{Command}
-use Rattle.svga_io.specs.Growing.{Grows, GrowsByPrefix}
-use Rattle.svga_io.specs.Rising.{Rises}
+use Rattle.svga_io.specs.Growing.{Grows}
 use Rattle.svga_io.specs.Taking.{taken_count}
 use Rattle.svga_model.proofs.GrammarEndings.{one_ending, whole_ending}
 use Rattle.svga_model.proofs.GrammarFronts.{nothing_begun}
-use Rattle.svga_model.specs.Endings.{End, IsEnding, Refused, Torn, Whole}
+use Rattle.svga_model.specs.Endings.{End, Refused, Torn, Whole}
 use Rattle.svga_model.specs.Sentences.{spelling_all}
 
-module _ {K : Type 0} {words : List (String Global)} {r : Reading} {held : K → Option (List ℕ)} {faults : K → ℕ} where
+module _ {K : Type 0} {words : List (String Global)} {r : SourceTells} {held : K → Option (List ℕ)} {faults : K → ℕ} where
   -- a text that is due was told
   pub run_told : {before now : K} {text : List ℕ} (status answer : ℕ) → IsDue words r status text → status ≢ 5 → status ≢ 6 → Tells held faults before now text status answer → IsRun words r held faults before now answer
   run_told {before} {now} {text} status answer due not5 not6 (inl (is, grown)) = record {
@@ -31,7 +29,7 @@ module _ {K : Type 0} {words : List (String Global)} {r : Reading} {held : K →
   }
 
   -- no memory was found
-  pub run_memory : (before now : K) (answer : ℕ) → answer ≡ 6 → IsWords words → now ≡ before → IsRun words r held faults before now answer
+  pub run_memory : (before now : K) (answer : ℕ) → answer ≡ 6 → AsksForWords words → now ≡ before → IsRun words r held faults before now answer
   run_memory before now answer is form same = record {
     told = λ _ other. absurd (other is);
     write_fault = λ five. absurd (omega arith);
@@ -72,12 +70,12 @@ words_status-small Whole = omega arith
 words_status-small (Refused word why) = omega arith
 words_status-small (Torn count) = omega arith
 
--- a sentence is whole
-whole_of : (bytes : List ℕ) (cs ds : List Command) (end : End) → IsSentenceInBytes cs bytes → IsEndingOfBytes bytes ds end → end ≡ Whole
+-- a sentence is whole, and its commands are those of the front
+whole_of : (bytes : List ℕ) (cs ds : List Command) (end : End) → IsSentenceInBytes cs bytes → IsEndingOfBytes bytes ds end → (ds ≡ cs) × (end ≡ Whole)
 whole_of bytes cs ds end sentence ending =
     let come = whole_ending (words_in bytes) cs (record { well_formed = sentence.words.well_formed; words = sentence.words.words ∙ sym (append-nil (spelling_all cs)); begun = nothing_begun }) in
     let same = one_ending (words_in bytes) ds cs ending.of_words Whole ending.ending come in
-    ending.torn ∙ ap (torn_by bytes) same.1 ∙ no_rest
+    (same.0, ending.of_bytes ∙ ap (torn_by bytes) same.1 ∙ no_rest)
   where
     no_rest : torn_by bytes Whole ≡ Whole
     no_rest = rw sentence.whole
@@ -95,21 +93,22 @@ not_more bytes before now limit told few more = by now (subst (λ t. TakesMore l
 is_or_not : (n k : ℕ) → (n ≡ k) ⊎ (n ≢ k)
 is_or_not n k = grind arith
 
--- a sentence within the limit is told whole
-pub run_complete : {K : Type 0} {words : List (String Global)} {r : Reading} {held : K → Option (List ℕ)} {faults : K → ℕ} {before now : K} (status : ℕ) → IsRun words r held faults before now status
-    → (cs : List Command) (bytes : List ℕ) → IsWords words → r.before ≡ Some bytes → length bytes ≤ 134217728 → IsSentenceInBytes cs bytes → (Rises r.faults_before r.faults_now → ⊥) → (Rises (faults before) (faults now) → ⊥) → (status ≡ 0) ⊎ (status ≡ 6)
-run_complete {words = words} {r = r} status run cs bytes form told few sentence steady sink_steady =
-    elim (is_or_not status 5) as (λ _. (status ≡ 0) ⊎ (status ≡ 6)) [
-      | inl five ↦ absurd (sink_steady ((run.write_fault five).3).cause)
-      | inr not5 ↦ elim (is_or_not status 6) as (λ _. (status ≡ 0) ⊎ (status ≡ 6)) [
-        | inl six ↦ inr six
-        | inr not6 ↦ inl (zero_of (run.told not5 not6).1)
+module _ {K : Type 0} {words : List (String Global)} {s : SourceTells} {held : K → Option (List ℕ)} {faults : K → ℕ} {before now : K} where
+  -- a sentence within the limit is told whole
+  pub run_complete : (status : ℕ) → IsRun words s held faults before now status → IsComplete words s held faults before now status
+  run_complete status run cs bytes form told few sentence steady sink_steady =
+      elim (is_or_not status 5) as (λ _. ((status ≡ 0) × Grows held faults before now (words_text cs Whole)) ⊎ (status ≡ 6)) [
+        | inl five ↦ absurd (sink_steady ((run.write_fault five).3).cause)
+        | inr not5 ↦ elim (is_or_not status 6) as (λ _. ((status ≡ 0) × Grows held faults before now (words_text cs Whole)) ⊎ (status ≡ 6)) [
+          | inl six ↦ inr six
+          | inr not6 ↦ let last = run.told not5 not6 in let zero = zero_of last.1 in inl (zero.0, subst (Grows held faults before now) zero.1 last.2)
+        ]
       ]
-    ]
-  where
-    zero_of : {text : List ℕ} → IsDue words r status text → status ≡ 0
-    zero_of (usage no_form is text_is) = absurd (no_form form)
-    zero_of (listed also read gives small ds end ending is text_is) =
-        is ∙ ap words_status (whole_of bytes cs ds end sentence (subst (λ t. IsEndingOfBytes t ds end) (given bytes read r.before r.now told gives) ending))
-    zero_of (read_fault also rose few_taken is text_is) = absurd (steady rose)
-    zero_of (too_long also more is text_is) = absurd (not_more bytes r.before r.now 134217728 told few more)
+    where
+      zero_of : {text : List ℕ} → IsDue words s status text → (status ≡ 0) × (text ≡ words_text cs Whole)
+      zero_of (usage no_form is text_is) = absurd (no_form form)
+      zero_of (listed also read gives small ds end ending is text_is) =
+          let whole = whole_of bytes cs ds end sentence (subst (λ t. IsEndingOfBytes t ds end) (given bytes read s.before s.now told gives) ending) in
+          (is ∙ ap words_status whole.1, text_is ∙ (λ i. words_text (whole.0 i) (whole.1 i)))
+      zero_of (read_fault also rose few_taken is text_is) = absurd (steady rose)
+      zero_of (too_long also more is text_is) = absurd (not_more bytes s.before s.now 134217728 told few more)

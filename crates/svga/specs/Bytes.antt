@@ -24,4 +24,4 @@ torn_by bytes (Torn count) = Torn count
 pub record IsEndingOfBytes (bytes : List ℕ) (cs : List Command) (end : End) : Type 0 where
   pub of_words : End
   pub ending : IsEnding (words_in bytes) cs of_words
-  pub torn : end ≡ torn_by bytes of_words
+  pub of_bytes : end ≡ torn_by bytes of_words

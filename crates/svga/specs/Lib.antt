@@ -1,4 +1,6 @@
 pub mod Bytes
 pub mod Due
-pub mod Listing
+pub mod Lists
+pub mod Prepared
+pub mod Telling
 pub mod Texts

@@ -1,5 +1,5 @@
 //! Bytes as words, and how bytes behind the last word change an ending.
-ghost use Rattle.std.specs.Prelude.{◌≡◌, ◌/◌, ◌≤◌, length, IfOk};
+ghost use Rattle.std.specs.Prelude.{◌≡◌, ◌≤◌, length, IfOk};
 ghost use Rattle.svga.specs.Bytes.{torn_by, words_in};
 ghost use Rattle.svga_decode.specs.Scans.{end_of};
 

@@ -2,14 +2,14 @@
 
 /// The status with which the program ends.
 ///
-/// | Status | Comes |
+/// | Status | Means |
 /// |---|---|
-/// | 0 | the input was read to its end and is whole commands |
-/// | 2 | the words are no form of the program; nothing is read |
-/// | 3 | the input was read to its end and has a bad word or ends inside a command |
-/// | 4 | the source failed |
-/// | 5 | the sink failed |
-/// | 6 | no memory was found; nothing is written |
+/// | 0 | the input is whole commands, all of which are listed |
+/// | 2 | the words are no form of the program; the input was left alone |
+/// | 3 | the input has a bad word, or ends inside a command or inside a word |
+/// | 4 | the source's count of faults rose |
+/// | 5 | the sink's count of faults rose, before the text that was due with another status was written whole |
+/// | 6 | no memory was found, and no text was written |
 /// | 7 | the input is longer than 134,217,728 bytes |
 #[derive(Clone, Copy, Debug, PartialEq, Eq)]
 pub struct Ended {

@@ -1,6 +1,6 @@
 //! The lines of the commands in words.
-ghost use Rattle.std.specs.Prelude.{◌≡◌, ◌<◌, ◌≤◌, length};
-ghost use Rattle.svga.specs.Listing.{Lists};
+ghost use Rattle.std.specs.Prelude.{◌≡◌, ◌≤◌, length};
+ghost use Rattle.svga.specs.Lists.{Lists};
 ghost use Rattle.svga_cmd.specs.Spelling.{Spells};
 ghost use Rattle.svga_cmd.specs.declared.command.Command.{Command};
 ghost use Rattle.svga_decode.specs.Reading.{fresh};

@@ -1,7 +1,8 @@
 //! The report on an input: its commands, the last fence, and how it ends.
 ghost use Rattle.std.specs.Prelude.{◌≡◌, ◌⊎◌, ◌≤◌, ℕ, List, length, IfOk};
 ghost use Rattle.svga.specs.Bytes.{IsEndingOfBytes};
-ghost use Rattle.svga.specs.Listing.{IsPrepared, Tells};
+ghost use Rattle.svga.specs.Prepared.{IsPrepared};
+ghost use Rattle.svga.specs.Telling.{Tells};
 ghost use Rattle.svga.specs.Texts.{end_text, words_status, words_text};
 ghost use Rattle.svga_cmd.specs.declared.command.Command.{Command};
 ghost use Rattle.svga_decode.specs.Reading.{fresh};

@@ -1,10 +1,7 @@
 //! The top call: all that the program does, over any source and any sink.
-ghost use Rattle.std.specs.Prelude.{◌≡◌, ◌⊎◌, ◌↔◌, ◌≤◌, ℕ, List, length, IsTrue, string_bytes, codes};
-ghost use Rattle.svga.specs.Bytes.{IsSentenceInBytes};
-ghost use Rattle.svga.specs.Due.{IsRun, IsWords, reading};
-ghost use Rattle.svga.specs.Listing.{Tells};
-ghost use Rattle.svga_cmd.specs.declared.command.Command.{Command};
-ghost use Rattle.svga_io.specs.Rising.{Rises};
+ghost use Rattle.std.specs.Prelude.{◌≡◌, ◌↔◌, IsTrue, string_bytes, codes};
+ghost use Rattle.svga.specs.Due.{AsksForWords, IsComplete, IsRun, source_tells};
+ghost use Rattle.svga.specs.Telling.{Tells};
 
 use crate::ended::Ended;
 use crate::report::write_report;
@@ -14,40 +11,44 @@ use svga_io::{InFault, Sink, Source, read_all, write_all};
 /// The longest input, in bytes.
 const LIMIT: usize = 134217728;
 
-/// Does all that the program does: its words, what it reads and what it writes.
+/// Runs the program with these words on this source and this sink, and answers the status with which it ends.
 pub fn top<S: Source, K: Sink>(
     alloc: Global,
     words: &[String],
     source: &mut S,
     sink: &mut K,
 ) -> Ended
-    ensures run { IsRun words.now (reading S.left S.faults source.old source.new) K.held K.faults sink.old sink.new result.status }
+    // What is due, by the words and by what was read, is told.
+    ensures run { IsRun words.now (source_tells S.left S.faults source.old source.new)
+        K.held K.faults sink.old sink.new result.status }
 
     // Nothing is read where the words are no form.
-    ensures unread { (IsWords words.now → ⊥) → source.new ≡ source.old }
+    ensures unread { (AsksForWords words.now → ⊥) → source.new ≡ source.old }
 
     // A sentence within the limit is told whole, unless the source or the sink fails or memory is short.
-    ensures complete { (cs : List Command) (bytes : List ℕ) → IsWords words.now → S.left source.old ≡ Some bytes → length bytes ≤ 134217728 → IsSentenceInBytes cs bytes
-        → (Rises (S.faults source.old) (S.faults source.new) → ⊥) → (Rises (K.faults sink.old) (K.faults sink.new) → ⊥) → (result.status ≡ 0) ⊎ (result.status ≡ 6) }
+    ensures complete { IsComplete words.now (source_tells S.left S.faults source.old source.new)
+        K.held K.faults sink.old sink.new result.status }
 {
     top_plain(alloc, words, source, sink)
 }
 
-/// Does the part of `top` that waits for nobody.
+/// The forms of `top` that wait for nobody. It always returns.
 pub fn top_plain<S: Source, K: Sink>(
     alloc: Global,
     words: &[String],
     source: &mut S,
     sink: &mut K,
 ) -> Ended
-    ensures run { IsRun words.now (reading S.left S.faults source.old source.new) K.held K.faults sink.old sink.new result.status }
+    // What is due, by the words and by what was read, is told.
+    ensures run { IsRun words.now (source_tells S.left S.faults source.old source.new)
+        K.held K.faults sink.old sink.new result.status }
 
     // Nothing is read where the words are no form.
-    ensures unread { (IsWords words.now → ⊥) → source.new ≡ source.old }
+    ensures unread { (AsksForWords words.now → ⊥) → source.new ≡ source.old }
 
     // A sentence within the limit is told whole, unless the source or the sink fails or memory is short.
-    ensures complete { (cs : List Command) (bytes : List ℕ) → IsWords words.now → S.left source.old ≡ Some bytes → length bytes ≤ 134217728 → IsSentenceInBytes cs bytes
-        → (Rises (S.faults source.old) (S.faults source.new) → ⊥) → (Rises (K.faults sink.old) (K.faults sink.new) → ⊥) → (result.status ≡ 0) ⊎ (result.status ≡ 6) }
+    ensures complete { IsComplete words.now (source_tells S.left S.faults source.old source.new)
+        K.held K.faults sink.old sink.new result.status }
 {
     if !is_words(words) {
         return tell(sink, "usage: svga words | replay | race | gen N\n", 2);
@@ -61,7 +62,7 @@ pub fn top_plain<S: Source, K: Sink>(
 }
 
 fn is_words(words: &[String]) -> bool
-    ensures { IsTrue result ↔ IsWords words.now }
+    ensures { IsTrue result ↔ AsksForWords words.now }
 {
     match words {
         [word] => is_words_word(word),

@@ -1,5 +1,5 @@
 -- The line of a listed command.
-use Rattle.std.specs.Prelude.{ℕ, ◌+◌, ◌*◌, List, [], ◌∷◌, ◌++◌, Option, Some, None, codes, map}
+use Rattle.std.specs.Prelude.{ℕ, ◌+◌, ◌*◌, List, [], ◌∷◌, Option, Some, None, codes, map}
 use Rattle.std.specs.Fmt.{decimal, signed_decimal}
 use Rattle.svga_cmd.specs.Words.{struct_size}
 use Rattle.svga_cmd.specs.declared.blit.Blit.{Blit}

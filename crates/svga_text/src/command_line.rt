@@ -1,10 +1,9 @@
 //! The lines of commands, each by its fields.
-ghost use Rattle.std.specs.Prelude.{◌≡◌, ◌∷◌, ◌++◌, [], length, map, codes, OnOk, OnErr};
+ghost use Rattle.std.specs.Prelude.{◌≡◌, ◌∷◌, length, map, codes};
 ghost use Rattle.std.specs.Fmt.{decimal};
 ghost use Rattle.svga_cmd.specs.Lent.{entries_of};
 ghost use Rattle.svga_cmd.specs.WellFormed.{HasEntries};
 ghost use Rattle.svga_cmd.specs.declared.command.Command.TheVariants as command;
-ghost use Rattle.svga_io.specs.Growing.{Grows, GrowsByPrefix};
 ghost use Rattle.svga_text.specs.CommandLines.{command_line, blit_fields, entry_numbers};
 ghost use Rattle.svga_text.specs.Lines.{line, spaced};
 ghost use Rattle.svga_text.specs.Passing.{PassesOn, Writes};

@@ -1,5 +1,5 @@
 //! The entries of a remap as numbers.
-ghost use Rattle.std.specs.Prelude.{◌≡◌, ◌<◌, ◌≤◌, length, slice_index};
+ghost use Rattle.std.specs.Prelude.{◌≡◌, ◌<◌, length, slice_index};
 ghost use Rattle.svga_cmd.specs.Lent.{entries_of};
 ghost use Rattle.svga_cmd.specs.WellFormed.{HasEntries};
 ghost use Rattle.svga_text.specs.CommandLines.{entry_numbers, wide, wide_numbers};

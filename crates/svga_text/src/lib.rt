@@ -1,7 +1,7 @@
 //! The texts that the program writes, line by line.
 //!
-//! `Render` writes each line of a text to a sink. What the line of a command or of an ending is stands in the
-//! definitions, by cases.
+//! `Render` writes each line of a text to a sink. `command_line` defines the line of a command, by cases on the
+//! command, and `line_text` every other line.
 #![tactic(auto)]
 
 mod command_line;

@@ -1,6 +1,6 @@
 //! The lines of a text that aren't a command's.
 
-/// A line. Its fields are the line's numbers and names, in order.
+/// A line, with what stands in it.
 #[derive(Clone, Copy, Debug)]
 pub enum Line {
     /// The last fence.

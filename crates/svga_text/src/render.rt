@@ -1,5 +1,5 @@
 //! Lines to a sink.
-ghost use Rattle.std.specs.Prelude.{◌≡◌, ◌++◌, ◌∷◌, [], length, map, OnOk, OnErr};
+ghost use Rattle.std.specs.Prelude.{◌++◌, ◌∷◌, [], map, OnOk, OnErr};
 ghost use Rattle.svga_cmd.specs.Lent.{command_of};
 ghost use Rattle.svga_cmd.specs.WellFormed.{IsWellFormed};
 ghost use Rattle.svga_io.specs.Growing.{Grows, GrowsByPrefix};
@@ -15,8 +15,8 @@ use std::alloc::{AllocError, Global};
 use svga_cmd::CommandRef;
 use svga_io::{Sink, WriteFault};
 
-/// Writes lines, each of which has arrived at its sink when the call returns. A long line goes in pieces of about
-/// 8 KiB, so no line takes memory.
+/// Writes lines. A call that answers Ok has put its whole line into the sink, whatever the line's length, through the
+/// one buffer that `new` took.
 #[derive(Drop)]
 pub struct Render {
     pub(crate) pending: Pending,
@@ -30,7 +30,7 @@ impl Render {
         })
     }
 
-    /// Writes the line of a command whose first word has this number.
+    /// Writes the line of a command whose first word has this number. A fault leaves the sink with a prefix of it.
     pub fn command<K: Sink>(
         &mut self,
         sink: &mut K,
@@ -66,7 +66,7 @@ impl Render {
         }
     }
 
-    /// Writes a line that isn't a command's.
+    /// Writes a line that isn't a command's. A fault leaves the sink with a prefix of it.
     pub fn line<K: Sink>(&mut self, sink: &mut K, line: &Line) -> Result<(), WriteFault>
         ensures ok { OnOk result (Grows K.held K.faults sink.old sink.new (line_text line.now)) }
         ensures fault { OnErr result (GrowsByPrefix K.held K.faults sink.old sink.new (line_text line.now)) }

@@ -1,4 +1,4 @@
-use Rattle.std.proofs.Common.{◌≡◌, ◌/◌, ℕ, List, ◌++◌, length, take, drop, arith, ◌∙◌}
+use Rattle.std.proofs.Common.{◌≡◌, ℕ, List, ◌++◌, length, take, drop, arith, ◌∙◌}
 use Rattle.std.proofs.lemmas.List.{take-append-le, take_all}
 use Rattle.svga.proofs.BytesLaws.{read_words_in}
 use Rattle.svga.proofs.bytes.words_of.Goals as goal

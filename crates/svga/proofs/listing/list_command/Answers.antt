@@ -1,4 +1,4 @@
-use Rattle.std.proofs.Common.{◌≡◌, ap, subst, sym, ◌∙◌}
+use Rattle.std.proofs.Common.{ap, subst}
 use Rattle.std.specs.Prelude.{IfSome}
 use Rattle.svga_cmd.proofs.ReadingLaws.{same_command}
 use Rattle.svga_cmd.specs.Lent.{command_of}

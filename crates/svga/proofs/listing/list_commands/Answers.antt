@@ -1,8 +1,6 @@
-use Rattle.std.proofs.Common.{◌+◌, ◌∷◌, ◌++◌, [], List, refl, subst, sym, ap, ◌∙◌, arith, slice_index, take}
+use Rattle.std.proofs.Common.{◌+◌, ◌∷◌, ◌++◌, [], refl, subst, sym, ap, arith}
 use Rattle.svga.proofs.ListingLaws.{listed_all, listed_fault, listed_more, listed_none, listed_refused, listed_same, listed_whole}
-use Rattle.svga.specs.Listing.{IsListed}
 use Rattle.svga_cmd.specs.Spelling.{Spells}
-use Rattle.svga_cmd.specs.declared.command.Command.{Command}
 use Rattle.svga_text.proofs.PassingLaws.{at_err}
 use Rattle.svga.proofs.listing.list_commands.Goals as goal
 use Rattle.svga.proofs.listing.list_commands.Goals.{in-More, in-Whole+in_ok-list_command-in-Whole}

@@ -1,6 +1,6 @@
 -- The words so far have come, and their whole commands are listed.
 use Rattle.std.proofs.Common.{List, take}
-use Rattle.svga.specs.Listing.{IsListed}
+use Rattle.svga.proofs.Listed.{IsListed}
 use Rattle.svga_cmd.specs.declared.command.Command.{Command}
 use Rattle.svga.proofs.listing.list_commands.Given as goal
 

@@ -1,13 +1,12 @@
-use Rattle.std.proofs.Common.{◌≡◌, ℕ, List, ◌++◌, ap, subst, sym, ◌∙◌}
+use Rattle.std.proofs.Common.{◌≡◌, ℕ, List, ap, subst, sym, ◌∙◌}
 use Rattle.svga.proofs.ListingLaws.{Lists-fault, Lists-ok}
-use Rattle.svga.specs.Bytes.{words_in}
-use Rattle.svga.specs.Listing.{IsPrepared}
-use Rattle.svga.specs.Texts.{end_text, fence_text, listing}
+use Rattle.svga.specs.Prepared.{IsPrepared}
+use Rattle.svga.specs.Texts.{end_text, fence_text}
 use Rattle.svga.specs.declared.report.Report.{Report}
 use Rattle.svga_cmd.specs.declared.command.Command.{Command}
 use Rattle.svga_decode.specs.Scans.{end_of}
 use Rattle.svga_io.proofs.Chains.{Grows-then, GrowsByPrefix-first, GrowsByPrefix-then}
-use Rattle.svga_io.specs.Growing.{Grows, GrowsByPrefix}
+use Rattle.svga_io.specs.Growing.{Grows}
 use Rattle.svga_model.specs.Endings.{IsFront, last_fence}
 use Rattle.svga_text.proofs.PassingLaws.{at_err, fault-same, Writes-behind}
 use Rattle.svga.proofs.report.write.Goals as goal

@@ -1,4 +1,4 @@
-use Rattle.std.proofs.Common.{codes, ◌∙◌}
+use Rattle.std.proofs.Common.{codes}
 use Rattle.svga.proofs.RunLaws.{one_word}
 use Rattle.svga.proofs.top.is_words.Goals as goal
 

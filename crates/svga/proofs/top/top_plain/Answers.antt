@@ -1,7 +1,7 @@
-use Rattle.std.proofs.Common.{◌≡◌, ◌≤◌, ◌⊎◌, length, inl, inr, arith, refl, sym, ap, ◌∙◌, Err}
+use Rattle.std.proofs.Common.{inl, inr, arith, refl, ap, ◌∙◌, Err}
 use Rattle.std.specs.Prelude.{IsErrOf}
 use Rattle.svga.proofs.RunLaws.{gives_all, run_complete, run_memory, run_told, takes_at_most, takes_more, words_status-small}
-use Rattle.svga.specs.Due.{IsRun, listed, read_fault, reading, too_long, usage}
+use Rattle.svga.specs.Due.{IsRun, listed, read_fault, source_tells, too_long, usage}
 use Rattle.svga.specs.Texts.{words_status}
 use Rattle.svga_io.specs.declared.fault.InFault.TheVariants.{TooLong}
 use Rattle.svga.proofs.top.top_plain.Goals as goal
@@ -12,7 +12,7 @@ returns-then-not-is_words-clause-run g c = run_told 2 c.tell.result.status (usag
 pub returns-in-Ok-clause-run : goal.returns-in-Ok-clause-run
 returns-in-Ok-clause-run g c =
     let form = c.is_words.ensures.0 c.if-not-is_words.false in
-    elim c.write_report.ensures as (λ _. IsRun c.args.words.now (reading g.S.Source.left g.S.Source.faults c.args.source.now c.read_all.new.source) g.K.Sink.held g.K.Sink.faults c.args.sink.now c.write_report.new.sink c.write_report.result.status) [
+    elim c.write_report.ensures as (λ _. IsRun c.args.words.now (source_tells g.S.Source.left g.S.Source.faults c.args.source.now c.read_all.new.source) g.K.Sink.held g.K.Sink.faults c.args.sink.now c.write_report.new.sink c.write_report.result.status) [
       | inl none ↦ run_memory c.args.sink.now c.write_report.new.sink c.write_report.result.status none.0 form none.1
       | inr told ↦ run_told (words_status told.1) c.write_report.result.status
           (listed form c.deref.result.now (gives_all _ _ c.deref.result.now c.in-Ok.bytes.items c.deref.ensures.value c.in-Ok.ensures.bytes c.in-Ok.ensures.end)

@@ -1,4 +1,4 @@
-use Rattle.std.proofs.Common.{◌≡◌, length, sym, subst, ◌∙◌, ap}
+use Rattle.std.proofs.Common.{length, sym, subst, ◌∙◌, ap}
 use Rattle.svga_cmd.specs.Lent.{entries_of}
 use Rattle.svga_cmd.specs.WellFormed.{HasEntries}
 use Rattle.svga_text.specs.CommandLines.{entry_numbers}

@@ -1,4 +1,4 @@
-use Rattle.std.proofs.Common.{◌≡◌, ◌<◌, ◌*◌, ◌+◌, length, arith, sym, ◌∙◌}
+use Rattle.std.proofs.Common.{arith, sym, ◌∙◌}
 use Rattle.svga_text.proofs.EntryLaws.{within, wide_numbers_at}
 use Rattle.svga_text.proofs.entry.wide_at.Goals as goal
 

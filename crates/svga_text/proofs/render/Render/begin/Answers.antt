@@ -1,4 +1,4 @@
-use Rattle.std.proofs.Common.{◌++◌, [], refl}
+use Rattle.std.proofs.Common.{◌++◌, []}
 use Rattle.svga_text.proofs.PassingLaws.{at_err, fault-first, fault-same, Passes-same, PassesOn-then}
 use Rattle.svga_text.proofs.render.Render.begin.Goals as goal
 
