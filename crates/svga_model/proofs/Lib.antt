@@ -8,5 +8,6 @@ pub mod GrammarLengths
 pub mod GrammarPrefixes
 pub mod GrammarSpelled
 pub mod GrammarTable
+pub mod StandingLaws
 pub mod TabulatedLaws
 pub mod Turns

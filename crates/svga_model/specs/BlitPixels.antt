@@ -71,7 +71,7 @@ pixel_there (s ∷ ss) p = Some p
 abbrev pub blit_pixel : (ℕ → Option ScreenDef) → Gmrfb → Blit → ℤ → ℤ → Option BlitPixel
 blit_pixel definitions g b X Y = pixel_there (covers definitions b.screen X Y) (record { x = X; y = Y; offset = blit_offset g b X Y })
 
--- the pixels of a blit, row by row and each row from left to right
+-- the pixels of a blit, from the top down and along each row from the left
 abbrev pub blit_pixels : (ℕ → Option ScreenDef) → Gmrfb → Blit → List BlitPixel
 blit_pixels definitions g b =
     flat_map (λ Y. filter_map (λ X. blit_pixel definitions g b X Y) (int_range b.rect.left b.rect.right)) (int_range b.rect.top b.rect.bottom)

@@ -1,4 +1,4 @@
--- Bytes of a region: byte i is byte i mod 4096 of the page at place i div 4096.
+-- Where a region's bytes lie: 4,096 of them on each place's page, one place behind the other.
 use Rattle.std.specs.Prelude.{ℕ, ◌*◌, ◌/◌, ◌%◌, List, [], ◌∷◌, length, slice_index_or, Bool, false, nat_lt, nat_le, ◌==◌, ◌&&◌, not, is_none, Option, Some, None, option_map, option_and_then}
 use Rattle.svga_cmd.specs.declared.fault.Fault.{Fault}
 use Rattle.svga_cmd.specs.declared.fault.Fault.TheVariants as fault

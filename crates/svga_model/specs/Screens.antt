@@ -32,7 +32,7 @@ pixels_of (Some d) = d.width * d.height
 unfoldable pub pixel_count : (ℕ → Option ScreenDef) → ℕ
 pixel_count definitions = sum_by (λ id. pixels_of (definitions id)) (range_with_len 0 16)
 
--- the same with this definition in place of an older one of its id
+-- their number once this definition stands
 abbrev pub count_with : (ℕ → Option ScreenDef) → ScreenDef → ℕ
 count_with definitions d = pixel_count definitions - pixels_of (definitions d.id) + pixels_of (Some d)
 

@@ -63,8 +63,8 @@ is_good_run guest d = is_run d && nat_le (d.page + d.count) guest
 abbrev pub is_bad : ℕ → Descriptor → Bool
 is_bad guest d = (is_link d && nat_le guest d.page) || (is_run d && nat_lt guest (d.page + d.count))
 
--- The place that comes after a descriptor: behind a good link the first one of that page, behind a good run the next
--- one of the same page.
+-- Where the walk goes on behind a descriptor: a good link leads to the top of its page, a good run to the descriptor
+-- below it. There is none below the last one of a page.
 abbrev pub next_place : ℕ → TablePlace → Descriptor → Option TablePlace
 next_place guest at d =
     if is_good_link guest d then Some (record { table = d.page; pair = 0 }) else

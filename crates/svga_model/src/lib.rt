@@ -4,11 +4,15 @@
 #![tactic(auto)]
 
 mod addresses;
+mod faults;
 mod fences;
 mod grammar;
 mod pixels;
 
 pub use addresses::one_turn;
+pub use faults::least_fault;
 pub use fences::fence_order;
 pub use grammar::{one_ending, refused_word, viable_words};
-pub use pixels::{narrowed_colour, pixels_at_a_corner, pixels_of_two_screens};
+pub use pixels::{
+    narrowed_colour, pixels_at_a_corner, pixels_of_a_far_screen, pixels_of_two_screens,
+};

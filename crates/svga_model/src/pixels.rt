@@ -1,7 +1,7 @@
 //! What holds of colours and of a blit's pixels. The functions do nothing: their contracts are the laws.
-ghost use Rattle.std.specs.Prelude.{◌≡◌, ℕ, ◌<◌, pos, List, [], ◌∷◌, All, length};
+ghost use Rattle.std.specs.Prelude.{◌≡◌, ℕ, ◌<◌, pos, negsuc, List, [], ◌∷◌, All, length};
 ghost use Rattle.svga_cmd.specs.declared.format.Format.{Format};
-ghost use Rattle.svga_model.specs.BlitExamples.{corner_blit, gmrfb, one_screen, two_screens, virtual_blit};
+ghost use Rattle.svga_model.specs.BlitExamples.{corner_blit, far_blit, far_screen, gmrfb, narrow_gmrfb, one_screen, two_screens, virtual_blit};
 ghost use Rattle.svga_model.specs.BlitPixels.{all_screens, blit_pixels, covers};
 ghost use Rattle.svga_model.specs.Colours.{bytes_of, colour_of, pixel_length, with_unused_zero};
 
@@ -30,4 +30,14 @@ pub fn pixels_of_two_screens()
     // The shared place is a pixel of both, and the lower id comes first.
     ensures shared { covers two_screens all_screens (pos 1) (pos 0) ≡ record { screen = 0; x = 1; y = 0 } ∷ record { screen = 1; x = 0; y = 0 } ∷ [] }
     ensures alone { covers two_screens 1 (pos 1) (pos 0) ≡ record { screen = 1; x = 1; y = 0 } ∷ [] }
+{}
+
+/// A blit in virtual coordinates to a screen away from the origin, of pixels of three bytes that don't begin at byte 0.
+pub fn pixels_of_a_far_screen()
+    // The first is pixel (3, 4) of the GMRFB.
+    ensures pixels { blit_pixels far_screen narrow_gmrfb far_blit ≡
+        record { x = negsuc 4; y = pos 7; offset = pos 275 }
+        ∷ record { x = negsuc 3; y = pos 7; offset = pos 278 } ∷ [] }
+    ensures covered { covers far_screen all_screens (negsuc 3) (pos 7) ≡ record { screen = 2; x = 1; y = 0 } ∷ [] }
+    ensures lower { covers far_screen all_screens (negsuc 4) (pos 8) ≡ record { screen = 2; x = 0; y = 1 } ∷ [] }
 {}

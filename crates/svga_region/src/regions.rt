@@ -73,7 +73,7 @@ impl Regions {
         })
     }
 
-    /// Makes so many unmapped places and drops an older list; 0 deletes.
+    /// Gives a region so many places, all unmapped, whatever it had before. With 0 places it goes.
     pub fn define(&mut self, id: u32, pages: u32) -> Result<(), Fault>
         ensures fault { result_err result ≡ first_standing (define_tests self.old.regions id pages) }
         // A region that is deleted needs no room.
@@ -173,7 +173,7 @@ impl Regions {
         }
     }
 
-    /// Begins a chain of descriptors for a region, with its first table page. A chain that was begun before is dropped.
+    /// Begins a chain of descriptors for a region, with its first table page. It takes the place of a chain that is under way.
     pub fn chain_start(&mut self, id: u32, first: u32) -> Result<(), Fault>
         requires { first ≢ 0 }
         ensures fault { result_err result ≡ first_standing (start_tests self.old.guest id first) }
@@ -194,7 +194,7 @@ impl Regions {
         Ok(())
     }
 
-    /// Reads the table page that the chain wants. After a refusal the chain is over.
+    /// Reads the table page that is wanted next. A refusal ends the chain.
     pub fn chain_page(&mut self, page: &Page) -> Result<ChainNext, Fault>
         requires { IsBegun self.old.chain }
         ensures answer { Answers self.old.guest self.old.chain page.now result self.new.chain }
@@ -213,7 +213,7 @@ impl Regions {
         }
     }
 
-    /// Makes the region of the whole chain's list. The chain is over, also after a refusal.
+    /// Gives the region the list of the chain that was read. Either way no chain is under way any more.
     pub fn chain_finish(&mut self) -> Result<(), Fault>
         requires { IsWhole self.old.chain }
         ensures fault { (c : Chain) → self.old.chain ≡ Some c → result_err result ≡ first_standing (list_tests self.old.regions c.id (length c.pages)) }

@@ -1,4 +1,4 @@
-//! Worked values that no clause says.
+//! Regions and chains by worked values, and that memory is found where there is some.
 ghost use Rattle.std.specs.Prelude.{◌≡◌, ◌+◌, ◌*◌, ◌≤◌, ◌<◌, ℕ, IfOk, length};
 
 use crate::Regions;

@@ -1,4 +1,4 @@
--- The part of a rectangle on an area.
+-- What a rectangle and an area share.
 use Rattle.std.specs.Prelude.{◌≡◌, ℕ, ◌+◌, ◌<◌, ◌≤◌, ℤ, pos, ◌+ℤ◌, Bool, nat_le, nat_lt, ◌&&◌}
 use Rattle.svga_cmd.specs.declared.blit.Rect.{Rect}
 use Rattle.svga_model.specs.BlitPixels.{is_in_rect}
@@ -11,12 +11,12 @@ is_inside a u v = nat_le a.left u && nat_lt u (a.left + a.width) && (nat_le a.to
 abbrev pub no_area : Area
 no_area = record { screen = 0; left = 0; top = 0; width = 0; height = 0 }
 
--- this is the part of the rectangle on the area of these sides that begins at (x, y), counted from there
+-- the area, in its own coordinates, of what the rectangle shares with an area of these sides whose corner is at (x, y)
 pub record IsClip (r : Rect) (x y : ℤ) (width height : ℕ) (a : Area) : Type 0 where
   pub screen : a.screen ≡ 0
   pub wide : a.left + a.width ≤ width
   pub high : a.top + a.height ≤ height
   pub same : (u v : ℕ) → u < width → v < height → is_inside a u v ≡ is_in_rect r (x +ℤ pos u) (y +ℤ pos v)
-  -- where nothing is left all numbers are 0
+  -- without a column or a row every number is 0
   pub no_columns : a.width ≡ 0 → a ≡ no_area
   pub no_rows : a.height ≡ 0 → a ≡ no_area

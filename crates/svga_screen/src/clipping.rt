@@ -5,8 +5,8 @@ ghost use Rattle.svga_screen.specs.Clips.{IsClip};
 use crate::area::Area;
 use svga_cmd::Rect;
 
-/// The part of `rect` on the area that begins at (`x`, `y`), counted from there. Where nothing is left all
-/// numbers are 0. The screen is for the caller to name.
+/// What a rectangle and an area with its left top corner at (`x`, `y`) share, in the area's own coordinates. If they
+/// share no place every number is 0. The screen is for the caller to name.
 pub fn clip(rect: Rect, x: i32, y: i32, width: u32, height: u32) -> Area
     requires width { width ≤ 8192 }
     requires height { height ≤ 8192 }

@@ -1,0 +1,5 @@
+use Rattle.svga_model.proofs.StandingLaws.{first_least}
+use Rattle.svga_model.proofs.faults.least_fault.Goals as goal
+
+pub returns-clause-least : goal.returns-clause-least
+returns-clause-least c = first_least 0
