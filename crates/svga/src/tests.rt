@@ -230,6 +230,21 @@ fn bytes_that_are_no_word(rt: HostRuntime) -> Result<(), Fail> {
 }
 
 #[test]
+fn a_source_of_single_bytes(rt: HostRuntime) -> Result<(), Fail> {
+    let alloc = rt.alloc();
+    let mut source = CleanSource::new(bytes_of(alloc, &[30, 7])?, 1);
+    let mut sink = MemSink::new(alloc, 64, Vec::new(alloc))?;
+    ends(
+        &rt,
+        &["words"],
+        &mut source,
+        &mut sink,
+        "at 0 FENCE 7\nfence 7\n",
+        0,
+    )
+}
+
+#[test]
 fn words_of_no_form(rt: HostRuntime) -> Result<(), Fail> {
     let alloc = rt.alloc();
     let usage = "usage: svga words | replay | race | gen N\n";
