@@ -33,13 +33,17 @@ pub record ScreenPixel : Type 0 where
   pub x : ℕ
   pub y : ℕ
 
+-- the screen with this id is meant
+abbrev pub is_meant : ℕ → ℕ → Bool
+is_meant screen id = screen == all_screens || screen == id
+
 -- the pixel of this screen at place (X, Y), if the screen is meant and lies there
 abbrev pub covered_on : Option ScreenDef → ℕ → ℕ → ℤ → ℤ → Option ScreenPixel
 covered_on None id screen X Y = None
 covered_on (Some d) id screen X Y =
     let x = corner_x screen d in
     let y = corner_y screen d in
-    if (screen == all_screens || screen == id) && is_in_area x y d.width d.height X Y
+    if is_meant screen id && is_in_area x y d.width d.height X Y
     then Some (record { screen = id; x = unsigned_abs (X -ℤ x); y = unsigned_abs (Y -ℤ y) }) else None
 
 -- the screens' pixels that place (X, Y) covers, by ascending id

@@ -26,13 +26,17 @@ abbrev pub holds_of : Option Places → (Places → Bool) → Bool
 holds_of None test = false
 holds_of (Some places) test = test places
 
--- when byte i of a region can't be had
-abbrev pub byte_tests : ℕ → Regions → ℕ → ℕ → List (Bool × Fault)
-byte_tests frame regions id i =
+-- when bytes of a region can't be had, by what is unmapped and what is beyond its end among its places
+abbrev pub region_tests : ℕ → Regions → ℕ → (Places → Bool) → (Places → Bool) → List (Bool × Fault)
+region_tests frame regions id unmapped beyond =
     (nat_le id 4095 && is_none (defined_places regions id), fault.NoRegion)
     ∷ (nat_lt 4095 id && not (id == frame_region), fault.RegionId)
-    ∷ (holds_of (places_of frame regions id) (λ places. is_unmapped places i), fault.Unmapped)
-    ∷ (holds_of (places_of frame regions id) (λ places. is_beyond places i), fault.BeyondRegion) ∷ []
+    ∷ (holds_of (places_of frame regions id) unmapped, fault.Unmapped)
+    ∷ (holds_of (places_of frame regions id) beyond, fault.BeyondRegion) ∷ []
+
+-- when byte i of a region can't be had
+abbrev pub byte_tests : ℕ → Regions → ℕ → ℕ → List (Bool × Fault)
+byte_tests frame regions id i = region_tests frame regions id (λ places. is_unmapped places i) (λ places. is_beyond places i)
 
 -- where byte i of a region lies
 abbrev pub located : ℕ → Regions → ℕ → ℕ → Option (PageKey × ℕ)

@@ -18,8 +18,12 @@ abbrev pub tables_of : Memory → Tables
 tables_of memory p = unwrap_or (map.get memory (Guest p)) []
 
 -- the 32-bit number from byte i on, its low byte first
+abbrev pub word_at : (ℕ → ℕ) → ℕ → ℕ
+word_at bytes i = bytes i + 256 * bytes (i + 1) + 2 ^ 16 * bytes (i + 2) + 2 ^ 24 * bytes (i + 3)
+
+-- the same in a list
 abbrev pub little_word : List ℕ → ℕ → ℕ
-little_word bytes i = slice_index bytes i + 256 * slice_index bytes (i + 1) + 2 ^ 16 * slice_index bytes (i + 2) + 2 ^ 24 * slice_index bytes (i + 3)
+little_word bytes i = word_at (slice_index bytes) i
 
 -- a descriptor: a page and a count, or (0, 0) at the end of a chain
 pub record Descriptor : Type 0 where
@@ -133,11 +137,12 @@ abbrev pub given_tests : Regions → ℕ → Result (List ℕ) Fault → List (B
 given_tests regions id (Ok pages) = list_tests regions id (length pages)
 given_tests regions id (Err f) = (true, f) ∷ []
 
--- when a chain is refused; with first page 0 there is none to be read, and the region goes
+-- When a chain is refused. Its reading is judged for an id up to 4,095 alone; with first page 0 there is none to be
+-- read, and the region goes.
 abbrev pub chain_tests : ℕ → Regions → Tables → ℕ → ℕ → List (Bool × Fault)
 chain_tests guest regions tables id first =
     (nat_lt 4095 id, fault.RegionId)
-    ∷ (if first == 0 then [] else given_tests regions id (walk_outcome guest tables first))
+    ∷ (if nat_lt 4095 id || first == 0 then [] else given_tests regions id (walk_outcome guest tables first))
 
 -- the regions with a list of guest pages
 abbrev pub with_pages : Regions → ℕ → List ℕ → Regions

@@ -1,9 +1,14 @@
 //! What holds of colours and of a blit's pixels. The functions do nothing: their contracts are the laws.
-ghost use Rattle.std.specs.Prelude.{◌≡◌, ℕ, ◌<◌, pos, negsuc, List, [], ◌∷◌, All, length};
+ghost use Rattle.std.specs.Prelude.{◌≡◌, ℕ, ◌<◌, pos, negsuc, unsigned_abs, List, [], ◌∷◌, All, length, Option, Some};
+ghost use Rattle.svga_cmd.specs.declared.blit.Blit.{Blit};
 ghost use Rattle.svga_cmd.specs.declared.format.Format.{Format};
+ghost use Rattle.svga_cmd.specs.declared.gmrfb.Gmrfb.{Gmrfb};
+ghost use Rattle.svga_cmd.specs.declared.screen.ScreenDef.{ScreenDef};
+ghost use Rattle.svga_model.specs.BlitEffects.{blit_colour, colour_at};
 ghost use Rattle.svga_model.specs.BlitExamples.{corner_blit, far_blit, far_screen, gmrfb, narrow_gmrfb, one_screen, two_screens, virtual_blit};
-ghost use Rattle.svga_model.specs.BlitPixels.{all_screens, blit_pixels, covers};
+ghost use Rattle.svga_model.specs.BlitPixels.{BlitPixel, ScreenPixel, all_screens, blit_pixels, covers};
 ghost use Rattle.svga_model.specs.Colours.{bytes_of, colour_of, pixel_length, with_unused_zero};
+ghost use Rattle.svga_model.specs.Members.{IsIn};
 
 /// A pixel that is widened and narrowed again is as it was, but for the bits that it doesn't use.
 pub fn narrowed_colour()
@@ -40,4 +45,17 @@ pub fn pixels_of_a_far_screen()
         ∷ record { x = negsuc 3; y = pos 7; offset = pos 278 } ∷ [] }
     ensures covered { covers far_screen all_screens (negsuc 3) (pos 7) ≡ record { screen = 2; x = 1; y = 0 } ∷ [] }
     ensures lower { covers far_screen all_screens (negsuc 4) (pos 8) ≡ record { screen = 2; x = 0; y = 1 } ∷ [] }
+{}
+
+/// The pixels of screens that a blit paints are those that its pixels cover, each with the colour of that pixel's bytes.
+pub fn painted_pixels()
+    // A pixel of a screen that some pixel of the blit covers.
+    ensures painted { (definitions : ℕ → Option ScreenDef) (bytes : ℕ → ℕ) (g : Gmrfb) (b : Blit) (p : BlitPixel) (q : ScreenPixel) (d : ScreenDef) →
+        IsIn p (blit_pixels definitions g b) → IsIn q (covers definitions b.screen p.x p.y) → definitions q.screen ≡ Some d →
+        blit_colour bytes g b q.screen d q.x q.y ≡ Some (colour_at bytes g.format (unsigned_abs p.offset)) }
+
+    // Every pixel that is painted is one of those.
+    ensures covered { (definitions : ℕ → Option ScreenDef) (bytes : ℕ → ℕ) (g : Gmrfb) (b : Blit) (q : ScreenPixel) (d : ScreenDef) (colour : ℕ) →
+        q.screen < 16 → definitions q.screen ≡ Some d → q.x < d.width → q.y < d.height → blit_colour bytes g b q.screen d q.x q.y ≡ Some colour →
+        (p : BlitPixel) × IsIn p (blit_pixels definitions g b) × IsIn q (covers definitions b.screen p.x p.y) }
 {}

@@ -1,0 +1,40 @@
+-- What holds of every state of a device.
+use Rattle.std.specs.Prelude.{◌≡◌, ◌⊎◌, ℕ, ◌<◌, ◌≤◌, All, List, Option, None, IfSome}
+use Rattle.std.specs.FinMap as map
+use Rattle.svga_cmd.specs.Limits.{AreLimits}
+use Rattle.svga_cmd.specs.Pages.{HasPage, IsKey, IsPage, Memory, page_at}
+use Rattle.svga_cmd.specs.declared.gmrfb.Gmrfb.{Gmrfb}
+use Rattle.svga_cmd.specs.declared.limits.Limits.{Limits}
+use Rattle.svga_cmd.specs.declared.page.PageKey.{PageKey}
+use Rattle.svga_model.specs.Regions.{Places, Regions, frame_region, place_count}
+use Rattle.svga_model.specs.Screens.{AreScreens}
+use Rattle.svga_model.specs.States.{Kept, State}
+
+-- each place is unmapped or a page of the device
+abbrev pub ArePlaces : Limits → Places → Type 0
+ArePlaces l places = All (λ place. IfSome place (IsKey l)) places
+
+-- The regions that commands define have ids up to 4,095, so that the framebuffer's id is always that of its own pages.
+pub record AreRegions (l : Limits) (regions : Regions) : Type 0 where
+  pub ids : (id : ℕ) → 4095 < id → map.get regions id ≡ None
+  pub each : (id : ℕ) → IfSome (map.get regions id) (ArePlaces l)
+  pub within : place_count regions ≤ 65536
+
+-- a GMRFB lies in the framebuffer's region or in one that commands may define
+abbrev pub IsGmrfb : Gmrfb → Type 0
+IsGmrfb g = (g.region ≤ 4095) ⊎ (g.region ≡ frame_region)
+
+pub record IsKept (k : Kept) : Type 0 where
+  pub limits : AreLimits k.limits
+  pub regions : AreRegions k.limits k.regions
+  pub gmrfb : IfSome k.gmrfb IsGmrfb
+  pub screens : AreScreens k.limits.budget k.screens
+
+-- pages of the device, but not all of them need be there
+pub record ArePages (l : Limits) (m : Memory) : Type 0 where
+  pub keys : (key : PageKey) → HasPage m key → IsKey l key
+  pub pages : (key : PageKey) → IfSome (page_at m key) IsPage
+
+pub record IsState (s : State) : Type 0 where
+  pub kept : IsKept s.kept
+  pub memory : ArePages s.kept.limits s.memory
