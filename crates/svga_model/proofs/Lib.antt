@@ -1,3 +1,4 @@
+pub mod ActLaws
 pub mod GrammarBadPlaces
 pub mod GrammarBegun
 pub mod GrammarComplete
@@ -8,6 +9,7 @@ pub mod GrammarLengths
 pub mod GrammarPrefixes
 pub mod GrammarSpelled
 pub mod GrammarTable
+pub mod RunLaws
 pub mod StandingLaws
 pub mod TabulatedLaws
 pub mod Turns

@@ -1,5 +1,5 @@
 -- Acts one after another, and the pages that they can be about.
-use Rattle.std.specs.Prelude.{ℕ, ◌+◌, List, [], ◌∷◌, Bool, false, ◌&&◌, ◌||◌, if◌then◌else◌, unwrap_or}
+use Rattle.std.specs.Prelude.{ℕ, suc, List, [], ◌∷◌, Bool, false, ◌&&◌, ◌||◌, if◌then◌else◌, unwrap_or}
 use Rattle.std.specs.FinMap as map
 use Rattle.std.specs.List.{list_any, range_with_len}
 use Rattle.svga_cmd.specs.declared.page.PageKey.{PageKey}
@@ -18,7 +18,7 @@ run s (act ∷ acts) = if is_admissible s act then run (step s act) acts else s
 -- how many of them were run
 abbrev pub done : State → List Act → ℕ
 done s [] = 0
-done s (act ∷ acts) = if is_admissible s act then 1 + done (step s act) acts else 0
+done s (act ∷ acts) = if is_admissible s act then suc (done (step s act) acts) else 0
 
 -- the page stands in a region
 unfoldable pub in_regions : Kept → PageKey → Bool
