@@ -40,16 +40,16 @@ repainted colour s = record s {
   rows = map_list (λ y. map_list (λ x. unwrap_or (colour x y) (slice_index (row_at s y) x)) (range_with_len 0 s.def.width)) (range_with_len 0 s.def.height)
 }
 
--- each screen with its new colours
+-- each screen with its new colours; ids end at 15
 unfoldable pub repainted_screens : (ℕ → ScreenDef → ℕ → ℕ → Option ℕ) → Screens → Screens
 repainted_screens colour screens = tabulated 16 (λ id. option_map (λ s. repainted (colour id s.def) s) (map.get screens id))
 
--- the colour of pixel (x, y) of a screen
+-- the colour of pixel (x, y) of a screen, 0 where there is none
 abbrev pub colour_on : Option Screen → ℕ → ℕ → ℕ
 colour_on None x y = 0
 colour_on (Some s) x y = slice_index (row_at s y) x
 
--- the colour of the first of these pixels
+-- the colour of the first of these pixels, 0 where there is none
 abbrev pub first_colour : Screens → List ScreenPixel → ℕ
 first_colour screens [] = 0
 first_colour screens (p ∷ ps) = colour_on (map.get screens p.screen) p.x p.y

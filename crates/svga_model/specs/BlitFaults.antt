@@ -1,4 +1,4 @@
--- When a blit, an UPDATE's sibling between screens and the GMRFB, is refused.
+-- When a blit between the screens and the GMRFB is refused.
 use Rattle.std.specs.Prelude.{ℕ, ℤ, pos, ◌+ℤ◌, int_lt, unsigned_abs, List, [], ◌∷◌, Bool, false, nat_lt, nat_le, ◌==◌, ◌&&◌, ◌||◌, not, is_some, is_none, Option, Some, None, option_and_then}
 use Rattle.std.specs.List.{range_with_len, list_any}
 use Rattle.svga_cmd.specs.Limits.{frame_page_count}
@@ -14,7 +14,7 @@ use Rattle.svga_model.specs.RegionBytes.{is_beyond, is_unmapped}
 use Rattle.svga_model.specs.Regions.{Places, Regions, places_of}
 use Rattle.svga_model.specs.States.{Shape}
 
--- a rectangle whose right side lies left of its left one, or its lower side over its upper one
+-- right is less than left, or bottom less than top
 abbrev pub is_negative : Rect → Bool
 is_negative r = int_lt r.right r.left || int_lt r.bottom r.top
 

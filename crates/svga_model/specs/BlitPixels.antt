@@ -8,7 +8,7 @@ use Rattle.svga_cmd.specs.declared.gmrfb.Gmrfb.{Gmrfb}
 use Rattle.svga_cmd.specs.declared.screen.ScreenDef.{ScreenDef}
 use Rattle.svga_model.specs.Colours.{pixel_length}
 
--- in place of a screen's id: the coordinates are virtual, and all screens are meant
+-- SVGA_ID_INVALID, in place of a screen's id: the coordinates are virtual, and all screens are meant
 abbrev pub all_screens : ℕ
 all_screens = 0xFFFFFFFF
 

@@ -15,7 +15,7 @@ use Rattle.svga_model.specs.Standing.{Stands, least_standing}
 use Rattle.svga_model.specs.States.{Shape, State, shape_of}
 use Rattle.svga_model.specs.Walks.{chain_tests, tables_of}
 
--- in place of a GMRFB's region: there is no GMRFB any more
+-- GMR_NULL, in place of a GMRFB's region: there is no GMRFB any more
 abbrev pub no_region : ℕ
 no_region = 0xFFFFFFFF
 

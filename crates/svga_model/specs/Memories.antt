@@ -20,7 +20,7 @@ located_byte m (Some at) = slice_index (page_bytes m at.0) at.1
 unfoldable pub region_byte : Memory → Places → ℕ → ℕ
 region_byte m places i = located_byte m (byte_location places i)
 
--- the memory with other bytes of a page
+-- the memory with other bytes of a page, the same where it lacks the page
 unfoldable pub with_page : Memory → PageKey → List ℕ → Memory
 with_page m key bytes = if is_some (page_at m key) then map.insert m key bytes else m
 

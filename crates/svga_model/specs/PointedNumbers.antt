@@ -60,7 +60,7 @@ numbers_in bytes at pages = map_list (λ k. number_at bytes at.words (at.offset 
 abbrev pub numbers_at : ℕ → Regions → Memory → Pointed → ℕ → List ℕ
 numbers_at frame regions m at pages = numbers_in (region_byte m (unwrap_or (places_of frame regions at.region) [])) at pages
 
--- those that are judged: none where a needed byte lies on no mapped place
+-- those that are judged: none where the region isn't defined or a needed byte lies on no mapped place
 abbrev pub judged_in : Memory → Option Places → Pointed → ℕ → List ℕ
 judged_in m None at pages = []
 judged_in m (Some places) at pages =

@@ -19,7 +19,7 @@ Places = List (Option PageKey)
 abbrev pub Regions : Type 0
 Regions = FinMap nat_cmp Places
 
--- the id of the region that is always the whole guest framebuffer
+-- GMR_FRAMEBUFFER, the id of the region that is always the whole guest framebuffer
 abbrev pub frame_region : ℕ
 frame_region = 0xFFFFFFFE
 
@@ -27,7 +27,7 @@ frame_region = 0xFFFFFFFE
 abbrev pub frame_places : ℕ → Places
 frame_places frame = map_list (λ g. Some (Frame g)) (range_with_len 0 frame)
 
--- the list of a region that commands define, whose ids end at 4,095
+-- the list of a region that commands and chains define, whose ids end at 4,095
 abbrev pub defined_places : Regions → ℕ → Option Places
 defined_places regions id = if nat_lt 4095 id then None else map.get regions id
 
@@ -44,10 +44,10 @@ unfoldable pub place_count : Regions → ℕ
 place_count regions = sum_by (region_length regions) (range_with_len 0 4096)
 
 -- the same with a list of so many places instead of this region's
-abbrev pub count_with : Regions → ℕ → ℕ → ℕ
-count_with regions id pages = place_count regions - region_length regions id + pages
+abbrev pub places_with : Regions → ℕ → ℕ → ℕ
+places_with regions id pages = place_count regions - region_length regions id + pages
 
--- when an id is none of a region that commands define
+-- when an id is none of a region that commands and chains define
 abbrev pub id_tests : ℕ → List (Bool × Fault)
 id_tests id = (nat_lt 4095 id, fault.RegionId) ∷ []
 
@@ -55,7 +55,7 @@ id_tests id = (nat_lt 4095 id, fault.RegionId) ∷ []
 abbrev pub define_tests : Regions → ℕ → ℕ → List (Bool × Fault)
 define_tests regions id pages =
     (nat_lt 4095 id, fault.RegionId)
-    ∷ (nat_le id 4095 && nat_lt 65536 (count_with regions id pages), fault.PlaceLimit) ∷ []
+    ∷ (nat_le id 4095 && nat_lt 65536 (places_with regions id pages), fault.PlaceLimit) ∷ []
 
 -- the regions after it: so many unmapped places, or none of this id any more
 abbrev pub with_region : Regions → ℕ → ℕ → Regions

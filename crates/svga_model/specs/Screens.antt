@@ -33,8 +33,8 @@ unfoldable pub pixel_count : (ℕ → Option ScreenDef) → ℕ
 pixel_count definitions = sum_by (λ id. pixels_of (definitions id)) (range_with_len 0 16)
 
 -- their number once this definition stands
-abbrev pub count_with : (ℕ → Option ScreenDef) → ScreenDef → ℕ
-count_with definitions d = pixel_count definitions - pixels_of (definitions d.id) + pixels_of (Some d)
+abbrev pub pixels_with : (ℕ → Option ScreenDef) → ScreenDef → ℕ
+pixels_with definitions d = pixel_count definitions - pixels_of (definitions d.id) + pixels_of (Some d)
 
 -- a side of 1 to 8,192 pixels
 abbrev pub is_side : ℕ → Bool
@@ -48,7 +48,7 @@ abbrev pub define_screen_tests : ℕ → (ℕ → Option ScreenDef) → ScreenDe
 define_screen_tests budget definitions d =
     (nat_lt 15 d.id, fault.ScreenId)
     ∷ (not (has_sides d), fault.ScreenSize)
-    ∷ (nat_le d.id 15 && has_sides d && nat_lt budget (count_with definitions d), fault.PixelBudget) ∷ []
+    ∷ (nat_le d.id 15 && has_sides d && nat_lt budget (pixels_with definitions d), fault.PixelBudget) ∷ []
 
 -- when DESTROY_SCREEN is refused
 abbrev pub destroy_screen_tests : (ℕ → Option ScreenDef) → ℕ → List (Bool × Fault)
@@ -111,7 +111,7 @@ abbrev pub IsAsWide : Option ScreenDef → List ℕ → Type 0
 IsAsWide None row = ⊥
 IsAsWide (Some d) row = length row ≡ d.width
 
--- a definition as DEFINE_SCREEN takes it, for this id
+-- a definition of this id, with sides as DEFINE_SCREEN takes them
 pub record IsDefinition (id : ℕ) (d : ScreenDef) : Type 0 where
   pub name : d.id ≡ id
   pub width : (0 < d.width) × (d.width ≤ 8192)

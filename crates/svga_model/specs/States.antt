@@ -47,7 +47,7 @@ all_keys l = map_list Guest (range_with_len 0 l.pages) ++ map_list Frame (range_
 unfoldable pub opening_memory : Limits → Memory
 opening_memory l = map.from_entries (map_list (λ key. (key, replicate 4096 0)) (all_keys l))
 
--- no region but the framebuffer's, no GMRFB, no screen, and the number below the first fence's
+-- no region but the framebuffer's, no GMRFB, no screen, and the number below the first fence's, which is 1 or more
 abbrev pub opening_kept : Limits → ℕ → Kept
 opening_kept l first = record { limits = l; regions = map.empty; gmrfb = None; screens = map.empty; fence = first - 1 }
 

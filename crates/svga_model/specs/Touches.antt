@@ -1,4 +1,4 @@
--- Which pages an act may read or write. It is said of admissible acts.
+-- Which pages an act may read or write. It is meant of admissible acts, and of a chain also where its walk is refused.
 use Rattle.std.specs.Prelude.{◌≡◌, ⊤, ℕ, List, [], ◌∷◌, Bool, true, false, ◌==◌, if◌then◌else◌, Option, Some, None, option_map, unwrap_or, option_and_then}
 use Rattle.std.specs.List.{list_any}
 use Rattle.std.specs.Ordering.{eq_by_cmp}
@@ -42,7 +42,7 @@ touched_places k c = unwrap_or (option_and_then (places_of (frame_pages k) k.reg
 abbrev pub chain_walk : State → ℕ → List TablePlace
 chain_walk s first = if first == 0 then [] else walk s.kept.limits.pages (tables_of s.memory) first
 
--- the act may read or write the page; a Put is none of the acts that are asked
+-- the act may read or write the page; of a Put it isn't said
 abbrev pub touches : State → Act → PageKey → Bool
 touches s (Do c) key = has_page (touched_places s.kept c) key
 touches s (Put other bytes) key = false

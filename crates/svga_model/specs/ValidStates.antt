@@ -1,4 +1,5 @@
--- What holds of every state of a device.
+-- What holds of every state of a device, and of one whose memory is cut down. Numbers aren't bounded by their words here:
+-- a value of the code's types has them bounded, and no effect makes them greater.
 use Rattle.std.specs.Prelude.{◌≡◌, ◌⊎◌, ℕ, ◌<◌, ◌≤◌, All, List, Option, None, IfSome}
 use Rattle.std.specs.FinMap as map
 use Rattle.svga_cmd.specs.Limits.{AreLimits}
@@ -14,7 +15,7 @@ use Rattle.svga_model.specs.States.{Kept, State}
 abbrev pub ArePlaces : Limits → Places → Type 0
 ArePlaces l places = All (λ place. IfSome place (IsKey l)) places
 
--- The regions that commands define have ids up to 4,095, so that the framebuffer's id is always that of its own pages.
+-- The regions that commands and chains define have ids up to 4,095, so that the framebuffer's id is always that of its own pages.
 pub record AreRegions (l : Limits) (regions : Regions) : Type 0 where
   pub ids : (id : ℕ) → 4095 < id → map.get regions id ≡ None
   pub each : (id : ℕ) → IfSome (map.get regions id) (ArePlaces l)

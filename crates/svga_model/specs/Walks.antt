@@ -6,7 +6,7 @@ use Rattle.svga_cmd.specs.Pages.{Memory}
 use Rattle.svga_cmd.specs.declared.fault.Fault.{Fault}
 use Rattle.svga_cmd.specs.declared.fault.Fault.TheVariants as fault
 use Rattle.svga_cmd.specs.declared.page.PageKey.TheVariants.{Guest}
-use Rattle.svga_model.specs.Regions.{Regions, guest_places, count_with}
+use Rattle.svga_model.specs.Regions.{Regions, guest_places, places_with}
 use Rattle.svga_model.specs.Standing.{first_standing}
 
 -- the bytes of a guest page, by its number
@@ -113,7 +113,8 @@ abbrev pub last_of : TablePlace → List TablePlace → TablePlace
 last_of at [] = at
 last_of at (next ∷ places) = last_of next places
 
--- What a walk gives by its last place, which came through so many places and so many pages before these.
+-- What a walk gives by its last place, behind so many places that listed these pages. A walk has a place, so that the
+-- case of none decides nothing.
 abbrev pub outcome_after : ℕ → Tables → ℕ → List ℕ → List TablePlace → Result (List ℕ) Fault
 outcome_after guest tables count pages [] = Ok pages
 outcome_after guest tables count pages (at ∷ places) =
@@ -130,7 +131,7 @@ start_tests guest id first = (nat_lt 4095 id, fault.RegionId) ∷ (nat_le guest 
 
 -- when a list of so many places is too much for a region
 abbrev pub list_tests : Regions → ℕ → ℕ → List (Bool × Fault)
-list_tests regions id pages = (nat_lt 65536 (count_with regions id pages), fault.PlaceLimit) ∷ []
+list_tests regions id pages = (nat_lt 65536 (places_with regions id pages), fault.PlaceLimit) ∷ []
 
 -- when a chain is refused whose reading gives this
 abbrev pub given_tests : Regions → ℕ → Result (List ℕ) Fault → List (Bool × Fault)

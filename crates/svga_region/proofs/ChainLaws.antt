@@ -4,7 +4,7 @@ use Rattle.std.proofs.lemmas.Bool.Decides.{nat_tests}
 use Rattle.std.proofs.lemmas.List.{drop_all, take_all}
 use Rattle.svga_cmd.specs.declared.fault.Fault.{Fault}
 use Rattle.svga_cmd.specs.declared.fault.Fault.TheVariants as fault
-use Rattle.svga_model.specs.Regions.{Regions, count_with}
+use Rattle.svga_model.specs.Regions.{Regions, places_with}
 use Rattle.svga_model.specs.Standing.{first_standing}
 use Rattle.svga_model.specs.Walks.{Tables, list_tests}
 use Rattle.svga_region.specs.Chains.{IsAnswer, Continues, Fails}
@@ -38,13 +38,13 @@ pub answer_err : (guest now : ℕ) (tables : Tables) (p : ℕ) (c b : Chain) (f 
 answer_err guest now tables p c b f g h answer = let P : ℕ × Chain → Type 0 = λ t. Fails t.0 tables p t.1 f None in subst P (λ k. (g k, h k)) answer
 
 -- a chain's list by its length
-pub list_over : (regions : Regions) (id pages : ℕ) → 65536 < count_with regions id pages → first_standing (list_tests regions id pages) ≡ Some fault.PlaceLimit
-list_over regions id pages more = ap (λ t. first_standing ((t, fault.PlaceLimit) ∷ [])) (test (count_with regions id pages) more) where
+pub list_over : (regions : Regions) (id pages : ℕ) → 65536 < places_with regions id pages → first_standing (list_tests regions id pages) ≡ Some fault.PlaceLimit
+list_over regions id pages more = ap (λ t. first_standing ((t, fault.PlaceLimit) ∷ [])) (test (places_with regions id pages) more) where
   test : (n : ℕ) → 65536 < n → nat_lt 65536 n ≡ true
   test n more = grind (arith, nat_tests)
 
 -- a list that there is room for
-pub list_within : (regions : Regions) (id pages : ℕ) → count_with regions id pages ≤ 65536 → first_standing (list_tests regions id pages) ≡ None
-list_within regions id pages few = ap (λ t. first_standing ((t, fault.PlaceLimit) ∷ [])) (test (count_with regions id pages) few) where
+pub list_within : (regions : Regions) (id pages : ℕ) → places_with regions id pages ≤ 65536 → first_standing (list_tests regions id pages) ≡ None
+list_within regions id pages few = ap (λ t. first_standing ((t, fault.PlaceLimit) ∷ [])) (test (places_with regions id pages) few) where
   test : (n : ℕ) → n ≤ 65536 → nat_lt 65536 n ≡ false
   test n few = grind (arith, nat_tests)

@@ -11,7 +11,7 @@ use Rattle.std.specs.FinMap.{nat_cmp-IsAntisymmetric, get-empty}
 use Rattle.svga_cmd.proofs.Maps.{is_insert, is_remove, same_gets}
 use Rattle.svga_cmd.specs.declared.fault.Fault.TheVariants as fault
 use Rattle.svga_model.proofs.TabulatedLaws.{get-tabulated_past}
-use Rattle.svga_model.specs.Regions.{Places, Regions, defined_places, region_length, place_count, count_with, define_tests, with_region, remap_tests, guest_places, remapped, with_remap}
+use Rattle.svga_model.specs.Regions.{Places, Regions, defined_places, region_length, place_count, places_with, define_tests, with_region, remap_tests, guest_places, remapped, with_remap}
 use Rattle.svga_model.specs.Standing.{first_standing}
 use Rattle.svga_region.proofs.PlaceLaws.{get-regions_of, slot_is, defined_places-small}
 use Rattle.svga_region.specs.Kept.{regions_of, slot_of, AreEmpty, AreSlots, AreRuns, IsShortRun}
@@ -79,22 +79,22 @@ place_count-slots defined lists n empty = ap (λ k. sum_by (region_length (regio
     ∙ sums (region_length (regions_of defined lists)) lists 0 (λ i l. length_in-slot defined lists (0 + i) (omega arith) empty ∙ ap (λ k. length (slice_index_or lists k [])) (let e : 0 + i ≡ i = omega arith in e))
 
 -- a length that is too much
-pub define_over : (regions : Regions) (id pages : ℕ) → id < 4096 → 65536 < count_with regions id pages → first_standing (define_tests regions id pages) ≡ Some fault.PlaceLimit
+pub define_over : (regions : Regions) (id pages : ℕ) → id < 4096 → 65536 < places_with regions id pages → first_standing (define_tests regions id pages) ≡ Some fault.PlaceLimit
 define_over regions id pages l more =
     let low : nat_lt 4095 id ≡ false = grind (arith, nat_tests) in
     let high : nat_le id 4095 ≡ true = grind (arith, nat_tests) in
-    let over = over_at (count_with regions id pages) more in
+    let over = over_at (places_with regions id pages) more in
     λ i. first_standing ((low i, fault.RegionId) ∷ (high i && over i, fault.PlaceLimit) ∷ [])
   where
     over_at : (n : ℕ) → 65536 < n → nat_lt 65536 n ≡ true
     over_at n more = grind (arith, nat_tests)
 
 -- a length that there is room for
-pub define_within : (regions : Regions) (id pages : ℕ) → id < 4096 → count_with regions id pages ≤ 65536 → first_standing (define_tests regions id pages) ≡ None
+pub define_within : (regions : Regions) (id pages : ℕ) → id < 4096 → places_with regions id pages ≤ 65536 → first_standing (define_tests regions id pages) ≡ None
 define_within regions id pages l few =
     let low : nat_lt 4095 id ≡ false = grind (arith, nat_tests) in
     let high : nat_le id 4095 ≡ true = grind (arith, nat_tests) in
-    let over = over_at (count_with regions id pages) few in
+    let over = over_at (places_with regions id pages) few in
     λ i. first_standing ((low i, fault.RegionId) ∷ (high i && over i, fault.PlaceLimit) ∷ [])
   where
     over_at : (n : ℕ) → n ≤ 65536 → nat_lt 65536 n ≡ false

@@ -1,5 +1,5 @@
 -- The three calls of a chain, one after another.
-use Rattle.std.proofs.Common.{◌≡◌, ◌≢◌, ℕ, ◌+◌, ◌<◌, ◌≤◌, refl, sym, ap, subst, ◌∙◌, IsSomeAnd, OnOk, Option, Some, None, List, [], ◌∷◌, length, arith, nat_lt, nat_le, ◌==◌, Bool, true, false, cond, Result, Ok, Err}
+use Rattle.std.proofs.Common.{◌≡◌, ◌≢◌, ℕ, ◌+◌, ◌<◌, ◌≤◌, refl, sym, ap, subst, ◌∙◌, IsSomeAnd, OnOk, Option, Some, None, List, [], ◌∷◌, length, arith, nat_lt, nat_le, ◌==◌, ◌||◌, Bool, true, false, cond, Result, Ok, Err}
 use Rattle.std.proofs.lemmas.Bool.Decides.{nat_tests}
 use Rattle.svga_cmd.specs.declared.fault.Fault.{Fault}
 use Rattle.svga_cmd.specs.declared.fault.Fault.TheVariants as fault
@@ -35,7 +35,7 @@ walk_outcome-good guest tables id first l = ap (λ t. cond t (Err fault.BadPage)
 
 -- the tests of a chain by its parts
 pub chain_tests-id : (guest : ℕ) (regions : Regions) (tables : Tables) (id first : ℕ) → 4095 < id → first_standing (chain_tests guest regions tables id first) ≡ Some fault.RegionId
-chain_tests-id guest regions tables id first l = ap (λ t. first_standing ((t, fault.RegionId) ∷ cond (first == 0) [] (given_tests regions id (walk_outcome guest tables first)))) (let e : nat_lt 4095 id ≡ true = grind (arith, nat_tests) in e)
+chain_tests-id guest regions tables id first l = ap (λ t. first_standing ((t, fault.RegionId) ∷ cond (t || first == 0) [] (given_tests regions id (walk_outcome guest tables first)))) (let e : nat_lt 4095 id ≡ true = grind (arith, nat_tests) in e)
 
 -- the tests of a chain by what its walk gives
 pub chain_tests-given : (guest : ℕ) (regions : Regions) (tables : Tables) (id first : ℕ) (given : Result (List ℕ) Fault) → id ≤ 4095 → first ≢ 0 → walk_outcome guest tables first ≡ given
@@ -43,7 +43,7 @@ pub chain_tests-given : (guest : ℕ) (regions : Regions) (tables : Tables) (id 
 chain_tests-given guest regions tables id first given l ne e =
     let low : nat_lt 4095 id ≡ false = grind (arith, nat_tests) in
     let some : (first == 0) ≡ false = grind (arith, nat_tests) in
-    λ i. first_standing ((low i, fault.RegionId) ∷ cond (some i) [] (given_tests regions id (e i)))
+    λ i. first_standing ((low i, fault.RegionId) ∷ cond (low i || some i) [] (given_tests regions id (e i)))
 
 -- the regions after it, likewise
 pub with_chain-given : (guest : ℕ) (regions : Regions) (tables : Tables) (id first : ℕ) (given : Result (List ℕ) Fault) → first ≢ 0 → walk_outcome guest tables first ≡ given → with_chain guest regions tables id first ≡ with_given regions id given

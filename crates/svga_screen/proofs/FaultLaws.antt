@@ -4,7 +4,7 @@ use Rattle.std.proofs.lemmas.Bool.Decides.{nat_tests}
 use Rattle.std.specs.Prelude.{is_none}
 use Rattle.svga_cmd.specs.declared.fault.Fault.TheVariants as fault
 use Rattle.svga_cmd.specs.declared.screen.ScreenDef.{ScreenDef}
-use Rattle.svga_model.specs.Screens.{IsDefinition, count_with, define_screen_tests, destroy_screen_tests, has_sides, is_side}
+use Rattle.svga_model.specs.Screens.{IsDefinition, pixels_with, define_screen_tests, destroy_screen_tests, has_sides, is_side}
 use Rattle.svga_model.specs.Standing.{first_standing}
 
 both : (a b : Bool) → (a && b) ≡ true → (a ≡ true) × (b ≡ true)
@@ -15,17 +15,17 @@ side : (n : ℕ) → is_side n ≡ true → (0 < n) × (n ≤ 8192)
 side n e = (grind (arith, nat_tests), grind (arith, nat_tests))
 
 module _ (budget : ℕ) (definitions : ℕ → Option ScreenDef) (d : ScreenDef) (small : d.id ≤ 15) (sides : has_sides d ≡ true) where
-  budget_alone : first_standing (define_screen_tests budget definitions d) ≡ first_standing ((nat_lt budget (count_with definitions d), fault.PixelBudget) ∷ [])
+  budget_alone : first_standing (define_screen_tests budget definitions d) ≡ first_standing ((nat_lt budget (pixels_with definitions d), fault.PixelBudget) ∷ [])
   budget_alone =
       let low : nat_lt 15 d.id ≡ false = grind (arith, nat_tests) in
       let high : nat_le d.id 15 ≡ true = grind (arith, nat_tests) in
-      λ i. first_standing ((low i, fault.ScreenId) ∷ (not (sides i), fault.ScreenSize) ∷ (high i && sides i && nat_lt budget (count_with definitions d), fault.PixelBudget) ∷ [])
+      λ i. first_standing ((low i, fault.ScreenId) ∷ (not (sides i), fault.ScreenSize) ∷ (high i && sides i && nat_lt budget (pixels_with definitions d), fault.PixelBudget) ∷ [])
 
-  pub over_budget : budget < count_with definitions d → first_standing (define_screen_tests budget definitions d) ≡ Some fault.PixelBudget
-  over_budget over = budget_alone ∙ ap (λ b. first_standing ((b, fault.PixelBudget) ∷ [])) (let t : nat_lt budget (count_with definitions d) ≡ true = grind (arith, nat_tests) in t)
+  pub over_budget : budget < pixels_with definitions d → first_standing (define_screen_tests budget definitions d) ≡ Some fault.PixelBudget
+  over_budget over = budget_alone ∙ ap (λ b. first_standing ((b, fault.PixelBudget) ∷ [])) (let t : nat_lt budget (pixels_with definitions d) ≡ true = grind (arith, nat_tests) in t)
 
-  pub within_budget : count_with definitions d ≤ budget → first_standing (define_screen_tests budget definitions d) ≡ None
-  within_budget within = budget_alone ∙ ap (λ b. first_standing ((b, fault.PixelBudget) ∷ [])) (let t : nat_lt budget (count_with definitions d) ≡ false = grind (arith, nat_tests) in t)
+  pub within_budget : pixels_with definitions d ≤ budget → first_standing (define_screen_tests budget definitions d) ≡ None
+  within_budget within = budget_alone ∙ ap (λ b. first_standing ((b, fault.PixelBudget) ∷ [])) (let t : nat_lt budget (pixels_with definitions d) ≡ false = grind (arith, nat_tests) in t)
 
   -- such a definition has its sides in range
   pub defines : IsDefinition d.id d

@@ -12,7 +12,7 @@ use Rattle.std.specs.Prelude.{option_map}
 use Rattle.svga_cmd.proofs.Maps.{is_insert, is_remove}
 use Rattle.svga_cmd.specs.declared.screen.ScreenDef.{ScreenDef}
 use Rattle.svga_model.proofs.TabulatedLaws.{get-tabulated, get-tabulated_past}
-use Rattle.svga_model.specs.Screens.{AreScreens, IsDefinition, IsOnRow, IsOnScreen, IsScreen, Screen, black_screen, count_with, definitions_of, painted, painted_over, painted_screen, pixel_count, pixels_of}
+use Rattle.svga_model.specs.Screens.{AreScreens, IsDefinition, IsOnRow, IsOnScreen, IsScreen, Screen, black_screen, pixels_with, definitions_of, painted, painted_over, painted_screen, pixel_count, pixels_of}
 use Rattle.svga_model.specs.Tabulated.{tabulated}
 use Rattle.svga_rows.specs.Rows.{with_values}
 use Rattle.svga_screen.proofs.PixelLaws.{get_or-rows_from, inside, length-new, length-row, length-rows_from, rows_from-replicate, rows_from-with_values}
@@ -144,9 +144,9 @@ module _ (defs : List (Option ScreenDef)) (pictures : List (List ℕ)) (id : ℕ
   screens_from-remove e = is_remove nat_cmp_total nat_cmp-IsAntisymmetric (screens_from defs pictures) (screens_from new_defs new_pictures) id (here ∙ e) others
 
 -- the pixels of all screens with other ones in this place
-pub count_with-screens_from : (defs : List (Option ScreenDef)) (pictures : List (List ℕ)) (d : ScreenDef) → d.id < 16 → length pictures ≡ 16 → AreSlots defs pictures
-    → count_with (definitions_of (screens_from defs pictures)) d ≡ sum_by length pictures - length (slice_index_or pictures d.id []) + d.width * d.height
-count_with-screens_from defs pictures d l n slots = λ i. pixel_count-screens_from defs pictures n slots i
+pub pixels_with-screens_from : (defs : List (Option ScreenDef)) (pictures : List (List ℕ)) (d : ScreenDef) → d.id < 16 → length pictures ≡ 16 → AreSlots defs pictures
+    → pixels_with (definitions_of (screens_from defs pictures)) d ≡ sum_by length pictures - length (slice_index_or pictures d.id []) + d.width * d.height
+pixels_with-screens_from defs pictures d l n slots = λ i. pixel_count-screens_from defs pictures n slots i
     - (ap pixels_of (definitions_of-screens_from defs pictures d.id l) ∙ sym (count_of-slot d.id (slice_index_or defs d.id None) (slice_index_or pictures d.id []) (slots d.id l))) i + d.width * d.height
 
 -- there are no screens without definitions

@@ -3,20 +3,20 @@ use Rattle.std.proofs.lemmas.List.{length-replicate}
 use Rattle.svga_model.specs.Screens.{black_screen, define_screen_tests, definitions_of, with_screen}
 use Rattle.svga_model.specs.Standing.{first_standing}
 use Rattle.svga_screen.proofs.FaultLaws.{defines, over_budget, within_budget}
-use Rattle.svga_screen.proofs.ScreenLaws.{black_picture, count_with-screens_from, kept_by, kept_set, screen_from-black, screens_from-insert}
+use Rattle.svga_screen.proofs.ScreenLaws.{black_picture, pixels_with-screens_from, kept_by, kept_set, screen_from-black, screens_from-insert}
 use Rattle.svga_screen.specs.Kept.{screens_from}
 use Rattle.svga_screen.proofs.screens.Screens.define.Goals as goal
 
 pub returns-then-others-pixels-clause-fault : goal.returns-then-others-pixels-clause-fault
 returns-then-others-pixels-clause-fault c =
     sym (over_budget c.self.inside.budget (definitions_of (screens_from c.self.inside.defs c.self.inside.pictures.lists)) c.args.def.now (omega arith) (sym c.has_sides.ensures ∙ c.if-not-has_sides.false)
-    (omega (arith, count_with-screens_from c.self.inside.defs c.self.inside.pictures.lists c.args.def.now (omega arith) c.self.invariant.picture_count c.self.invariant.slots, c.total.ensures.total, ap length c.list.ensures)))
+    (omega (arith, pixels_with-screens_from c.self.inside.defs c.self.inside.pictures.lists c.args.def.now (omega arith) c.self.invariant.picture_count c.self.invariant.slots, c.total.ensures.total, ap length c.list.ensures)))
     ∙ ap (λ r. first_standing (define_screen_tests r.budget (definitions_of r.screens) c.args.def.now)) c.self.view_is
 
 pub returns-clause-fault : goal.returns-clause-fault
 returns-clause-fault c =
     sym (within_budget c.self.inside.budget (definitions_of (screens_from c.self.inside.defs c.self.inside.pictures.lists)) c.args.def.now (omega arith) (sym c.has_sides.ensures ∙ c.if-not-has_sides.false)
-    (omega (arith, count_with-screens_from c.self.inside.defs c.self.inside.pictures.lists c.args.def.now (omega arith) c.self.invariant.picture_count c.self.invariant.slots, c.total.ensures.total, ap length c.list.ensures)))
+    (omega (arith, pixels_with-screens_from c.self.inside.defs c.self.inside.pictures.lists c.args.def.now (omega arith) c.self.invariant.picture_count c.self.invariant.slots, c.total.ensures.total, ap length c.list.ensures)))
     ∙ ap (λ r. first_standing (define_screen_tests r.budget (definitions_of r.screens) c.args.def.now)) c.self.view_is
 
 pub invariant_of-self : goal.invariant_of-self
