@@ -9,6 +9,7 @@ pub mod GrammarLengths
 pub mod GrammarPrefixes
 pub mod GrammarSpelled
 pub mod GrammarTable
+pub mod PixelsNone
 pub mod RunLaws
 pub mod StandingLaws
 pub mod TabulatedLaws

@@ -16,7 +16,7 @@ pub use faults::{fault_of_act, least_fault};
 pub use fences::fence_order;
 pub use grammar::{one_ending, refused_word, viable_words};
 pub use pixels::{
-    narrowed_colour, painted_pixels, pixels_at_a_corner, pixels_of_a_far_screen,
+    narrowed_colour, no_pixels, painted_pixels, pixels_at_a_corner, pixels_of_a_far_screen,
     pixels_of_two_screens,
 };
 pub use states::{put_alone, run_in_parts, valid_states};

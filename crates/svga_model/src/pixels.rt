@@ -1,11 +1,12 @@
 //! What holds of colours and of a blit's pixels. The functions do nothing: their contracts are the laws.
-ghost use Rattle.std.specs.Prelude.{◌≡◌, ℕ, ◌<◌, pos, negsuc, unsigned_abs, List, [], ◌∷◌, All, length, Option, Some};
+ghost use Rattle.std.specs.Prelude.{◌≡◌, ◌≢◌, ℕ, ◌<◌, ◌≤◌, pos, negsuc, unsigned_abs, List, [], ◌∷◌, All, length, Bool, true, Option, None, Some};
 ghost use Rattle.svga_cmd.specs.declared.blit.Blit.{Blit};
 ghost use Rattle.svga_cmd.specs.declared.format.Format.{Format};
 ghost use Rattle.svga_cmd.specs.declared.gmrfb.Gmrfb.{Gmrfb};
 ghost use Rattle.svga_cmd.specs.declared.screen.ScreenDef.{ScreenDef};
 ghost use Rattle.svga_model.specs.BlitEffects.{blit_colour, colour_at};
 ghost use Rattle.svga_model.specs.BlitExamples.{corner_blit, far_blit, far_screen, gmrfb, narrow_gmrfb, one_screen, two_screens, virtual_blit};
+ghost use Rattle.svga_model.specs.BlitFaults.{is_negative};
 ghost use Rattle.svga_model.specs.BlitPixels.{BlitPixel, ScreenPixel, all_screens, blit_pixels, covers};
 ghost use Rattle.svga_model.specs.Colours.{bytes_of, colour_of, pixel_length, with_unused_zero};
 ghost use Rattle.svga_model.specs.Members.{IsIn};
@@ -58,4 +59,11 @@ pub fn painted_pixels()
     ensures covered { (definitions : ℕ → Option ScreenDef) (bytes : ℕ → ℕ) (g : Gmrfb) (b : Blit) (q : ScreenPixel) (d : ScreenDef) (colour : ℕ) →
         q.screen < 16 → definitions q.screen ≡ Some d → q.x < d.width → q.y < d.height → blit_colour bytes g b q.screen d q.x q.y ≡ Some colour →
         (p : BlitPixel) × IsIn p (blit_pixels definitions g b) × IsIn q (covers definitions b.screen p.x p.y) }
+{}
+
+/// A blit that is refused for its screen or its rectangle has no pixels, so no byte of it is judged.
+pub fn no_pixels()
+    ensures negative { (definitions : ℕ → Option ScreenDef) (g : Gmrfb) (b : Blit) → is_negative b.rect ≡ true → blit_pixels definitions g b ≡ [] }
+    ensures no_screen { (definitions : ℕ → Option ScreenDef) (g : Gmrfb) (b : Blit) → b.screen ≤ 15 → definitions b.screen ≡ None → blit_pixels definitions g b ≡ [] }
+    ensures screen_id { (definitions : ℕ → Option ScreenDef) (g : Gmrfb) (b : Blit) → 15 < b.screen → b.screen ≢ all_screens → blit_pixels definitions g b ≡ [] }
 {}
