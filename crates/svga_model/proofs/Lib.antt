@@ -13,4 +13,9 @@ pub mod PixelsNone
 pub mod RunLaws
 pub mod StandingLaws
 pub mod TabulatedLaws
+pub mod TouchLaws
+pub mod TouchPages
+pub mod TouchPuts
+pub mod TouchWalks
+pub mod TouchWrites
 pub mod Turns
