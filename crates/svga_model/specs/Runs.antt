@@ -2,9 +2,11 @@
 use Rattle.std.specs.Prelude.{ℕ, suc, List, [], ◌∷◌, Bool, false, ◌&&◌, ◌||◌, if◌then◌else◌, unwrap_or}
 use Rattle.std.specs.FinMap as map
 use Rattle.std.specs.List.{list_any, range_with_len}
+use Rattle.svga_cmd.specs.Pages.{Memory}
 use Rattle.svga_cmd.specs.declared.page.PageKey.{PageKey}
 use Rattle.svga_model.specs.Acts.{Act, Do, Put, Chain}
 use Rattle.svga_model.specs.Faults.{is_admissible}
+use Rattle.svga_model.specs.Memories.{with_page}
 use Rattle.svga_model.specs.Regions.{defined_places, frame_places}
 use Rattle.svga_model.specs.States.{Kept, State, frame_pages}
 use Rattle.svga_model.specs.Steps.{step}
@@ -39,3 +41,10 @@ is_met s (act ∷ acts) key = in_regions s.kept key || on_walk s act key || (is_
 -- the state with these pages alone
 abbrev pub only : State → List Act → State
 only s acts = record s { memory = map.retain_keys s.memory (is_met s acts) }
+
+-- a memory after the Puts among the acts, without what else they do
+abbrev pub puts : Memory → List Act → Memory
+puts m [] = m
+puts m (Do c ∷ acts) = puts m acts
+puts m (Put key bytes ∷ acts) = puts (with_page m key bytes) acts
+puts m (Chain id first ∷ acts) = puts m acts

@@ -1,13 +1,12 @@
-//! What holds of every state, and of runs. The functions do nothing: their contracts are the laws.
-ghost use Rattle.std.specs.Prelude.{◌≡◌, ◌≢◌, ◌+◌, ◌<◌, ◌≤◌, ◌++◌, ℕ, List, [], ◌∷◌, length, take};
+//! What holds of every state, and of Puts. The functions do nothing: their contracts are the laws.
+ghost use Rattle.std.specs.Prelude.{◌≡◌, ◌≢◌, ℕ, All, List, Some};
 ghost use Rattle.svga_cmd.specs.Limits.{AreLimits};
 ghost use Rattle.svga_cmd.specs.Pages.{HasPage, IsKey, page_at};
 ghost use Rattle.svga_cmd.specs.declared.limits.Limits.{Limits};
 ghost use Rattle.svga_cmd.specs.declared.page.PageKey.{PageKey};
-ghost use Rattle.std.specs.Prelude.{Some};
 ghost use Rattle.svga_model.specs.Acts.{Act, IsAct, Put};
 ghost use Rattle.svga_model.specs.Faults.{IsAdmissible};
-ghost use Rattle.svga_model.specs.Runs.{done, run};
+ghost use Rattle.svga_model.specs.Runs.{run};
 ghost use Rattle.svga_model.specs.States.{State, opening_state};
 ghost use Rattle.svga_model.specs.Steps.{step};
 ghost use Rattle.svga_model.specs.ValidStates.{IsState};
@@ -19,6 +18,7 @@ pub fn valid_states()
     // At first each page of the device is there.
     ensures all_pages { (l : Limits) (first : ℕ) (key : PageKey) → IsKey l key → HasPage (opening_state l first).memory key }
     ensures step { (s : State) (act : Act) → IsState s → IsAct s.kept.limits act → IsAdmissible s act → IsState (step s act) }
+    ensures run { (s : State) (acts : List Act) → IsState s → All (IsAct s.kept.limits) acts → IsState (run s acts) }
     ensures limits { (s : State) (act : Act) → (step s act).kept.limits ≡ s.kept.limits }
     ensures keys { (s : State) (act : Act) (key : PageKey) → (HasPage s.memory key → HasPage (step s act).memory key) × (HasPage (step s act).memory key → HasPage s.memory key) }
 {}
@@ -30,18 +30,4 @@ pub fn put_alone()
     ensures others { (s : State) (key other : PageKey) (bytes : List ℕ) → other ≢ key → page_at (step s (Put key bytes)).memory other ≡ page_at s.memory other }
     ensures kept { (s : State) (key : PageKey) (bytes : List ℕ) → (step s (Put key bytes)).kept ≡ s.kept }
     ensures admissible { (s : State) (key : PageKey) (bytes : List ℕ) → IsAdmissible s (Put key bytes) }
-{}
-
-/// A run goes act by act, and ends before the first act that isn't admissible.
-pub fn run_in_parts()
-    // A first part that is run whole is followed by the second part.
-    ensures whole { (s : State) (xs ys : List Act) → done s xs ≡ length xs → (run s (xs ++ ys) ≡ run (run s xs) ys) × (done s (xs ++ ys) ≡ done s xs + done (run s xs) ys) }
-
-    // A first part that isn't is followed by nothing.
-    ensures ended { (s : State) (xs ys : List Act) → done s xs < length xs → (run s (xs ++ ys) ≡ run s xs) × (done s (xs ++ ys) ≡ done s xs) }
-    ensures most { (s : State) (xs : List Act) → done s xs ≤ length xs }
-
-    // What a run leaves is what the acts leave that it ran, all of them.
-    ensures front { (s : State) (xs : List Act) → (run s (take (done s xs) xs) ≡ run s xs) × (done s (take (done s xs) xs) ≡ done s xs) }
-    ensures refused { (s : State) (xs ys : List Act) (act : Act) → xs ≡ take (done s xs) xs ++ act ∷ ys → ¬ (IsAdmissible (run s xs) act) }
 {}

@@ -1,5 +1,5 @@
 use Rattle.svga_model.proofs.RunLaws.{done_most, run_ended, run_front, run_refused, run_whole}
-use Rattle.svga_model.proofs.states.run_in_parts.Goals as goal
+use Rattle.svga_model.proofs.runs.run_in_parts.Goals as goal
 
 pub returns-clause-whole : goal.returns-clause-whole
 returns-clause-whole c = run_whole
