@@ -9,6 +9,10 @@ pub mod GrammarLengths
 pub mod GrammarPrefixes
 pub mod GrammarSpelled
 pub mod GrammarTable
+pub mod PaintedMembers
+pub mod PaintedPixels
+pub mod PaintedPlaces
+pub mod PaintedTests
 pub mod PixelsNone
 pub mod RunLaws
 pub mod StandingLaws
