@@ -9,6 +9,7 @@ pub mod GrammarLengths
 pub mod GrammarPrefixes
 pub mod GrammarSpelled
 pub mod GrammarTable
+pub mod PaintedFirst
 pub mod PaintedMembers
 pub mod PaintedPixels
 pub mod PaintedPlaces

@@ -1,7 +1,6 @@
 -- A blit's pixels, and the pixels of screens that it paints.
 use Rattle.std.proofs.Common.{◌≡◌, ℕ, ◌<◌, refl, sym, ap, ◌∙◌, subst, List, [], ◌∷◌, flat_map, filter_map, Option, Some, None, true, ◌&&◌, cond, ℤ, pos, ◌+ℤ◌, int_lt, int_le, unsigned_abs}
 use Rattle.svga_cmd.specs.declared.blit.Blit.{Blit}
-use Rattle.svga_cmd.specs.declared.blit.Rect.{Rect}
 use Rattle.svga_cmd.specs.declared.gmrfb.Gmrfb.{Gmrfb}
 use Rattle.svga_cmd.specs.declared.screen.ScreenDef.{ScreenDef}
 use Rattle.svga_model.proofs.PaintedMembers.{filter_map_has, flat_map_has, in_filter_map, in_flat_map, in_int_range, int_range_has}

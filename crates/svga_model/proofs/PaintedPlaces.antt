@@ -1,5 +1,5 @@
 -- The screens' pixels that a place covers, by the ids of the screens and by their corners.
-use Rattle.std.proofs.Common.{◌≡◌, ℕ, ◌<◌, refl, ap, ◌∙◌, subst, List, filter_map, Option, Some, None, Bool, true, ◌&&◌, cond, ℤ, pos, ◌+ℤ◌, ◌-ℤ◌, int_lt, int_le, unsigned_abs, arith}
+use Rattle.std.proofs.Common.{◌≡◌, ℕ, ◌<◌, refl, ap, ◌∙◌, subst, List, filter_map, Option, Some, None, true, ◌&&◌, cond, ℤ, pos, ◌+ℤ◌, ◌-ℤ◌, int_lt, int_le, unsigned_abs, arith}
 use Rattle.std.proofs.lemmas.Int.{ints}
 use Rattle.std.specs.List.{range_with_len}
 use Rattle.svga_cmd.specs.declared.screen.ScreenDef.{ScreenDef}
@@ -27,7 +27,7 @@ from_side : (corner X : ℤ) (length n : ℕ) → corner +ℤ pos n ≡ X → n 
 from_side corner X length n at l = (grind (arith, ints), grind (arith, ints), grind (arith, ints))
 
 -- a pixel that a place covers is that of a screen with a definition, and lies there
-on_screen : (o : Option ScreenDef) (id screen : ℕ) (X Y : ℤ) (q : ScreenPixel) → covered_on o id screen X Y ≡ Some q
+pub on_screen : (o : Option ScreenDef) (id screen : ℕ) (X Y : ℤ) (q : ScreenPixel) → covered_on o id screen X Y ≡ Some q
     → (d : ScreenDef) × (o ≡ Some d) × (id ≡ q.screen) × IsAt d screen X Y q
 on_screen None id screen X Y q e = absurd (cc)
 on_screen (Some d) id screen X Y q e =

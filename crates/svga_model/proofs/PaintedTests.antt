@@ -1,5 +1,5 @@
 -- What tests tell that are joined by &&, and a value that stands under a test.
-use Rattle.std.proofs.Common.{◌≡◌, refl, Option, Some, None, Bool, true, false, ◌&&◌, cond}
+use Rattle.std.proofs.Common.{◌≡◌, refl, Some, None, Bool, true, false, ◌&&◌, cond}
 
 -- a value under a test is there where the test holds
 pub chosen : {X : Type 0} (t : Bool) (a b : X) → cond t (Some a) None ≡ Some b → (t ≡ true) × (a ≡ b)

@@ -59,6 +59,14 @@ pub fn painted_pixels()
     ensures covered { (definitions : ℕ → Option ScreenDef) (bytes : ℕ → ℕ) (g : Gmrfb) (b : Blit) (q : ScreenPixel) (d : ScreenDef) (colour : ℕ) →
         q.screen < 16 → definitions q.screen ≡ Some d → q.x < d.width → q.y < d.height → blit_colour bytes g b q.screen d q.x q.y ≡ Some colour →
         (p : BlitPixel) × IsIn p (blit_pixels definitions g b) × IsIn q (covers definitions b.screen p.x p.y) }
+
+    // Each pixel of the blit covers some, and the first, which a blit back reads, is of the screen with the least id.
+    ensures least { (definitions : ℕ → Option ScreenDef) (g : Gmrfb) (b : Blit) (p : BlitPixel) → IsIn p (blit_pixels definitions g b) →
+        (q : ScreenPixel) × (others : List ScreenPixel) × (covers definitions b.screen p.x p.y ≡ q ∷ others) × All (λ r. q.screen < r.screen) others }
+
+    // A blit to one screen covers pixels of that screen alone, at its own places.
+    ensures alone { (definitions : ℕ → Option ScreenDef) (b : Blit) (p : BlitPixel) (q : ScreenPixel) → b.screen < 16 → IsIn q (covers definitions b.screen p.x p.y) →
+        (q.screen ≡ b.screen) × (pos q.x ≡ p.x) × (pos q.y ≡ p.y) }
 {}
 
 /// A blit that is refused for its screen or its rectangle has no pixels, so no byte of it is judged.
