@@ -67,12 +67,14 @@ GoesOn s xs ys = (run s (xs ++ ys) ≡ run (run s xs) ys) × (done s (xs ++ ys) 
 
 more_whole : (s : State) (act : Act) (acts ys : List Act) (b : Bool) → is_admissible s act ≡ b → done s (act ∷ acts) ≡ length (act ∷ acts) → (done (step s act) acts ≡ length acts → GoesOn (step s act) acts ys) → GoesOn s (act ∷ acts) ys
 more_whole s act acts ys true t e rest = (
-    run-first s act (acts ++ ys) true t ∙ (on n).0 ∙ ap (λ r. run r ys) (sym (run-first s act acts true t)),
-    done-first s act (acts ++ ys) true t ∙ (let m = (on n).1 in let sum : suc (done (step s act) (acts ++ ys)) ≡ suc (done (step s act) acts) + done (run (step s act) acts) ys = omega (arith, m) in sum)
-    ∙ sym (λ i. done-first s act acts true t i + done (run-first s act acts true t i) ys))
+  run-first s act (acts ++ ys) true t ∙ (on n).0 ∙ ap (λ r. run r ys) (sym (run-first s act acts true t)),
+  done-first s act (acts ++ ys) true t ∙ (let m = (on n).1 in let sum : suc (done (step s act) (acts ++ ys)) ≡ suc (done (step s act) acts) + done (run (step s act) acts) ys = omega (arith, m) in sum)
+      ∙ sym (λ i. done-first s act acts true t i + done (run-first s act acts true t i) ys),
+)
   where
     n : done (step s act) acts ≡ length acts
     n = let first = done-first s act acts true t in omega (arith, first, e)
+
     on : done (step s act) acts ≡ length acts → GoesOn (step s act) acts ys
     on = rest
 more_whole s act acts ys false t e rest = let n = done-first s act acts false t in absurd (omega (arith, n, e))
@@ -89,11 +91,13 @@ more_ended : (s : State) (act : Act) (acts ys : List Act) (b : Bool) → is_admi
 more_ended s act acts ys true t l rest =
     let first = done-first s act acts true t in
     let ends = rest (omega (arith, first, l)) in (
-    run-first s act (acts ++ ys) true t ∙ ends.0 ∙ sym (run-first s act acts true t),
-    done-first s act (acts ++ ys) true t ∙ ap suc ends.1 ∙ sym first)
+      run-first s act (acts ++ ys) true t ∙ ends.0 ∙ sym (run-first s act acts true t),
+      done-first s act (acts ++ ys) true t ∙ ap suc ends.1 ∙ sym first,
+    )
 more_ended s act acts ys false t l rest = (
-    run-first s act (acts ++ ys) false t ∙ sym (run-first s act acts false t),
-    done-first s act (acts ++ ys) false t ∙ sym (done-first s act acts false t))
+  run-first s act (acts ++ ys) false t ∙ sym (run-first s act acts false t),
+  done-first s act (acts ++ ys) false t ∙ sym (done-first s act acts false t),
+)
 
 pub run_ended : (s : State) (xs ys : List Act) → done s xs < length xs → (run s (xs ++ ys) ≡ run s xs) × (done s (xs ++ ys) ≡ done s xs)
 run_ended s [] ys l = absurd (omega arith)
@@ -106,11 +110,13 @@ IsFrontOf s xs = (run s (take (done s xs) xs) ≡ run s xs) × (done s (take (do
 more_front : (s : State) (act : Act) (acts : List Act) (b : Bool) → is_admissible s act ≡ b → IsFrontOf (step s act) acts → IsFrontOf s (act ∷ acts)
 more_front s act acts true t rest =
     let front = ap (λ n. take n (act ∷ acts)) (done-first s act acts true t) in (
-    ap (run s) front ∙ run-first s act (take (done (step s act) acts) acts) true t ∙ rest.0 ∙ sym (run-first s act acts true t),
-    ap (done s) front ∙ done-first s act (take (done (step s act) acts) acts) true t ∙ ap suc rest.1 ∙ sym (done-first s act acts true t))
+      ap (run s) front ∙ run-first s act (take (done (step s act) acts) acts) true t ∙ rest.0 ∙ sym (run-first s act acts true t),
+      ap (done s) front ∙ done-first s act (take (done (step s act) acts) acts) true t ∙ ap suc rest.1 ∙ sym (done-first s act acts true t),
+    )
 more_front s act acts false t rest = (
-    ap (λ n. run s (take n (act ∷ acts))) (done-first s act acts false t) ∙ sym (run-first s act acts false t),
-    ap (λ n. done s (take n (act ∷ acts))) (done-first s act acts false t) ∙ sym (done-first s act acts false t))
+  ap (λ n. run s (take n (act ∷ acts))) (done-first s act acts false t) ∙ sym (run-first s act acts false t),
+  ap (λ n. done s (take n (act ∷ acts))) (done-first s act acts false t) ∙ sym (done-first s act acts false t),
+)
 
 pub run_front : (s : State) (xs : List Act) → (run s (take (done s xs) xs) ≡ run s xs) × (done s (take (done s xs) xs) ≡ done s xs)
 run_front s [] = (refl, refl)

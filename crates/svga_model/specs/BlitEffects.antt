@@ -37,7 +37,7 @@ update_colour bytes l left top width height d x y =
 -- a picture whose pixels have new colours where there are any
 abbrev pub repainted : (ℕ → ℕ → Option ℕ) → Screen → Screen
 repainted colour s = record s {
-  rows = map_list (λ y. map_list (λ x. unwrap_or (colour x y) (slice_index (row_at s y) x)) (range_with_len 0 s.def.width)) (range_with_len 0 s.def.height)
+  rows = map_list (λ y. map_list (λ x. unwrap_or (colour x y) (slice_index (row_at s y) x)) (range_with_len 0 s.def.width)) (range_with_len 0 s.def.height);
 }
 
 -- each screen with its new colours; ids end at 15
