@@ -9,6 +9,9 @@ pub mod GrammarLengths
 pub mod GrammarPrefixes
 pub mod GrammarSpelled
 pub mod GrammarTable
+pub mod OnlyOthers
+pub mod OnlyPlaces
+pub mod OnlyRuns
 pub mod PaintedFirst
 pub mod PaintedMembers
 pub mod PaintedPixels
