@@ -27,3 +27,11 @@ pub mod TouchPuts
 pub mod TouchWalks
 pub mod TouchWrites
 pub mod Turns
+pub mod ValidChains
+pub mod ValidColours
+pub mod ValidMemory
+pub mod ValidRegions
+pub mod ValidRemaps
+pub mod ValidRules
+pub mod ValidScreens
+pub mod ValidStateLaws
