@@ -33,5 +33,6 @@ pub mod ValidMemory
 pub mod ValidRegions
 pub mod ValidRemaps
 pub mod ValidRules
+pub mod ValidRuns
 pub mod ValidScreens
 pub mod ValidStateLaws

@@ -11,7 +11,7 @@ use Rattle.svga_cmd.specs.declared.limits.Limits.{Limits}
 use Rattle.svga_cmd.specs.declared.page.PageKey.TheVariants.{Guest}
 use Rattle.svga_model.proofs.ValidRegions.{places_guest, regions_inserted, regions_removed}
 use Rattle.svga_model.proofs.ValidRules.{AreFalse, all_false, at_most}
-use Rattle.svga_model.specs.Regions.{Regions, count_with, guest_places}
+use Rattle.svga_model.specs.Regions.{Regions, places_with, guest_places}
 use Rattle.svga_model.specs.Standing.{first_standing, least_standing}
 use Rattle.svga_model.specs.ValidStates.{AreRegions}
 use Rattle.svga_model.specs.Walks.{Descriptor, TablePlace, Tables, chain_tests, descriptor_at, given_tests, is_bad, is_end, is_good_link, is_good_run, last_of, listed_pages, next_place, outcome_after, places_from, run_pages, unless, walk, walk_outcome, with_chain, with_given}
@@ -122,7 +122,7 @@ given_good : (l : Limits) (regions : Regions) (id : ℕ) (given : Result (List �
     → AreRegions l regions → IfOk given (All (λ p. p < l.pages)) → AreFalse (given_tests regions id given)
     → AreRegions l (with_given regions id given)
 given_good l regions id (Ok pages) small are few tests =
-    let room = at_most (count_with regions id (length pages)) 65536 tests.0 in
+    let room = at_most (places_with regions id (length pages)) 65536 tests.0 in
     regions_inserted l regions id small are (guest_places pages) (places_guest l pages few)
     (omega (arith, room, length-map pages (λ n. Some (Guest n))))
 given_good l regions id (Err f) small are few tests = are

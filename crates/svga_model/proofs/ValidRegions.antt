@@ -12,7 +12,7 @@ use Rattle.svga_cmd.specs.declared.limits.Limits.{Limits}
 use Rattle.svga_cmd.specs.declared.page.PageKey.{PageKey}
 use Rattle.svga_cmd.specs.declared.page.PageKey.TheVariants.{Guest}
 use Rattle.svga_model.proofs.ValidRules.{all_false, at_most, is_at_most, not_over, other_false, sum_changed, sum_nothing}
-use Rattle.svga_model.specs.Regions.{Places, Regions, count_with, define_tests, defined_places, guest_places, place_count, region_length, remapped, with_region, with_remap}
+use Rattle.svga_model.specs.Regions.{Places, Regions, places_with, define_tests, defined_places, guest_places, place_count, region_length, remapped, with_region, with_remap}
 use Rattle.svga_model.specs.Standing.{least_standing}
 use Rattle.svga_model.specs.ValidStates.{ArePlaces, AreRegions}
 
@@ -110,8 +110,8 @@ pub regions_defined : (l : Limits) (regions : Regions) (id pages : ℕ) → AreR
 regions_defined l regions id pages are none =
     let tests = all_false (define_tests regions id pages) none in
     let small = at_most id 4095 tests.0 in
-    let room : count_with regions id pages ≤ 65536 = at_most (count_with regions id pages) 65536
-    (other_false (nat_le id 4095) (nat_lt 65536 (count_with regions id pages)) tests.1.0 (is_at_most id 4095 small)) in
+    let room : places_with regions id pages ≤ 65536 = at_most (places_with regions id pages) 65536
+    (other_false (nat_le id 4095) (nat_lt 65536 (places_with regions id pages)) tests.1.0 (is_at_most id 4095 small)) in
     elim (pages == 0)
     as (λ t. AreRegions l (cond t (map.remove regions id) (map.insert regions id (replicate pages None)))) [
       | true ↦ regions_removed l regions id small are

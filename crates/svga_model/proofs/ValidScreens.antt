@@ -18,7 +18,7 @@ use Rattle.svga_model.proofs.ValidColours.{IsColour}
 use Rattle.svga_model.proofs.ValidRules.{all_false, all_made, at_most, both_true, index_under, is_at_most, not_false, sum_changed, sum_nothing}
 use Rattle.svga_model.specs.BlitEffects.{colour_on, first_colour, repainted, repainted_screens}
 use Rattle.svga_model.specs.BlitPixels.{ScreenPixel}
-use Rattle.svga_model.specs.Screens.{AreScreens, IsScreen, Screen, Screens, black_screen, count_with, define_screen_tests, definitions_of, destroy_screen_tests, has_sides, is_side, pixel_count, pixels_of, row_at, with_screen, without_screen}
+use Rattle.svga_model.specs.Screens.{AreScreens, IsScreen, Screen, Screens, black_screen, pixels_with, define_screen_tests, definitions_of, destroy_screen_tests, has_sides, is_side, pixel_count, pixels_of, row_at, with_screen, without_screen}
 use Rattle.svga_model.specs.Standing.{least_standing}
 
 -- what definitions there are at an id
@@ -96,9 +96,9 @@ module _ (budget : ℕ) (screens : Screens) (are : AreScreens budget screens) wh
       let tests = all_false (define_screen_tests budget (definitions_of screens) d) none in
       let small = at_most d.id 15 tests.0 in
       let sides = not_false (has_sides d) tests.1.0 in
-      let pixels = count_with (definitions_of screens) d in
+      let pixels = pixels_with (definitions_of screens) d in
       let over = nat_lt budget pixels in
-      let few : count_with (definitions_of screens) d ≤ budget = at_most pixels budget
+      let few : pixels_with (definitions_of screens) d ≤ budget = at_most pixels budget
       (third_false (nat_le d.id 15) (has_sides d) over tests.1.1.0 (is_at_most d.id 15 small) sides) in
       screens_changed d.id small (with_screen screens d) (Some (black_screen d))
       (get_same nat_cmp_total nat_cmp-IsAntisymmetric screens d.id (black_screen d))

@@ -1,5 +1,6 @@
 -- Every state is valid.
 use Rattle.svga_model.proofs.ValidMemory.{opening_has}
+use Rattle.svga_model.proofs.ValidRuns.{run_good}
 use Rattle.svga_model.proofs.ValidStateLaws.{opening_good, step_good, step_keys, step_limits}
 use Rattle.svga_model.proofs.states.valid_states.Goals as goal
 
@@ -11,6 +12,9 @@ returns-clause-all_pages c = λ l first. opening_has l
 
 pub returns-clause-step : goal.returns-clause-step
 returns-clause-step c = step_good
+
+pub returns-clause-run : goal.returns-clause-run
+returns-clause-run c = run_good
 
 pub returns-clause-limits : goal.returns-clause-limits
 returns-clause-limits c = step_limits
