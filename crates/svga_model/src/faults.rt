@@ -21,7 +21,7 @@ pub fn fault_of_act()
     ensures none { (s : State) (act : Act) → IsAdmissible s act ↔ ((f : Fault) → ¬ (HasFault s act f)) }
 {}
 
-/// The first fault of ordered tests is the one with the least number. These tests are ordered.
+/// The first fault of ordered tests is the one with the least number, and these tests are ordered.
 pub fn least_fault()
     ensures first { (rules : List (Bool × Fault)) → AreOrdered 0 rules → first_standing rules ≡ least_standing rules }
     ensures least { (rules : List (Bool × Fault)) → AreOrdered 0 rules → IfSome (first_standing rules) (λ f. AreAtLeast (number_of f) rules) }
