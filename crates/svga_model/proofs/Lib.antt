@@ -18,6 +18,7 @@ pub mod PaintedPixels
 pub mod PaintedPlaces
 pub mod PaintedTests
 pub mod PixelsNone
+pub mod PutLaws
 pub mod RunLaws
 pub mod StandingLaws
 pub mod TabulatedLaws

@@ -9,7 +9,7 @@ use Rattle.svga_model.specs.States.{State}
 use Rattle.svga_model.specs.Steps.{step}
 use Rattle.svga_model.specs.Touches.{Touches}
 use Rattle.svga_model.proofs.OnlyPlaces.{rest_met, touched_met}
-use Rattle.svga_model.proofs.OnlyRuns.{put_alike}
+use Rattle.svga_model.proofs.PutLaws.{with_page_agree}
 use Rattle.svga_model.proofs.RunLaws.{done-first, run-first}
 use Rattle.svga_model.proofs.TouchLaws.{other_pages}
 
@@ -31,7 +31,7 @@ step_puts : (s : State) (n : Memory) (act : Act) (key : PageKey)
     → (Touches s act key → ⊥) → page_at s.memory key ≡ page_at n key
     → page_at (step s act).memory key ≡ page_at (puts n (act ∷ [])) key
 step_puts s n (Do c) key off same = other_pages s (Do c) key (λ put. put) off ∙ same
-step_puts s n (Put other bytes) key off same = put_alike s.memory n other key bytes same
+step_puts s n (Put other bytes) key off same = with_page_agree s.memory n other key bytes bytes refl same
 step_puts s n (Chain id first) key off same = other_pages s (Chain id first) key (λ put. put) off ∙ same
 
 -- the Puts of a first act, and of the rest

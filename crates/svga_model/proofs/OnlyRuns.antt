@@ -13,29 +13,9 @@ use Rattle.svga_model.specs.States.{State}
 use Rattle.svga_model.specs.Steps.{step}
 use Rattle.svga_model.specs.Touches.{AgreeOn, IsPut, touches}
 use Rattle.svga_model.proofs.OnlyPlaces.{rest_met, touched_met}
-use Rattle.svga_model.proofs.RunLaws.{done-first, page_other, page_put, run-first, with_page-lacks}
+use Rattle.svga_model.proofs.PutLaws.{with_page_agree}
+use Rattle.svga_model.proofs.RunLaws.{done-first, head_same, run-first, tail_same}
 use Rattle.svga_model.proofs.TouchLaws.{other_pages, same_fault, same_kept, same_pages, same_touches}
-
--- the same Put leaves the same of its page, where that was the same
-put_here : (m n : Memory) (key : PageKey) (bytes : List ℕ)
-    → page_at m key ≡ page_at n key → page_at (with_page m key bytes) key ≡ page_at (with_page n key bytes) key
-put_here m n key bytes same = go (is_some (page_at m key)) refl where
-  go : (b : Bool) → is_some (page_at m key) ≡ b
-      → page_at (with_page m key bytes) key ≡ page_at (with_page n key bytes) key
-  go true has = page_put m key bytes has ∙ sym (page_put n key bytes (ap is_some (sym same) ∙ has))
-  go false lacks =
-      ap (λ memory. page_at memory key) (with_page-lacks m key bytes lacks)
-      ∙ (same ∙ ap (λ memory. page_at memory key) (sym (with_page-lacks n key bytes (ap is_some (sym same) ∙ lacks))))
-
--- and of each page that was the same
-pub put_alike : (m n : Memory) (other key : PageKey) (bytes : List ℕ)
-    → page_at m key ≡ page_at n key → page_at (with_page m other bytes) key ≡ page_at (with_page n other bytes) key
-put_alike m n other key bytes same =
-    by_key keys_total keys_exact key other
-    (page_at (with_page m other bytes) key ≡ page_at (with_page n other bytes) key)
-    (λ is. subst (λ k. page_at (with_page m k bytes) key ≡ page_at (with_page n k bytes) key) is
-    (put_here m n key bytes same))
-    (λ ne. page_other m other key bytes ne ∙ (same ∙ sym (page_other n other key bytes ne)))
 
 -- an act other than a Put leaves the same of each page that was the same
 quiet_alike : (s t : State) (act : Act) (key : PageKey)
@@ -53,7 +33,7 @@ step_alike : (s t : State) (act : Act) (key : PageKey)
     → s.kept ≡ t.kept → AgreeOn s t act → page_at s.memory key ≡ page_at t.memory key
     → page_at (step s act).memory key ≡ page_at (step t act).memory key
 step_alike s t (Do c) key = quiet_alike s t (Do c) key (λ put. put)
-step_alike s t (Put other bytes) key = λ kept agree same. put_alike s.memory t.memory other key bytes same
+step_alike s t (Put other bytes) key = λ kept agree same. with_page_agree s.memory t.memory other key bytes bytes refl same
 step_alike s t (Chain id first) key = quiet_alike s t (Chain id first) key (λ put. put)
 
 -- the two states' memories have the same on the pages that the first one's run meets
@@ -83,14 +63,6 @@ pub record RunAlike (s t : State) (acts : List Act) : Type 0 where
 -- they do where there is no act
 none_alike : (s t : State) → s.kept ≡ t.kept → RunAlike s t []
 none_alike s t kept = record { ends = refl; fault = λ ys act e. cc e; kept = kept; pages = λ key same. same }
-
--- the heads of equal lists
-head_same : (x y : Act) (xs ys : List Act) → x ∷ xs ≡ y ∷ ys → x ≡ y
-head_same x y xs ys e = cc e
-
--- and their tails
-tail_same : (x y : Act) (xs ys : List Act) → x ∷ xs ≡ y ∷ ys → xs ≡ ys
-tail_same x y xs ys e = cc e
 
 -- where the first act is refused
 refused_alike : (s t : State) (x : Act) (xs : List Act)

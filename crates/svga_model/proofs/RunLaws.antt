@@ -1,4 +1,4 @@
--- Runs by parts, and Puts by themselves.
+-- Runs by parts.
 use Rattle.std.proofs.Common.{◌≡◌, ◌≢◌, ℕ, zero, suc, ◌+◌, ◌<◌, ◌≤◌, List, [], ◌∷◌, ◌++◌, length, take, Bool, true, false, cond, refl, sym, ap, subst, ◌∙◌, Option, Some, None, is_none, is_some, arith}
 use Rattle.std.specs.FinMap as map
 use Rattle.svga_cmd.specs.Pages.{Memory, page_at}
@@ -11,39 +11,6 @@ use Rattle.svga_model.specs.Memories.{with_page}
 use Rattle.svga_model.specs.Runs.{done, run}
 use Rattle.svga_model.specs.States.{State}
 use Rattle.svga_model.specs.Steps.{step}
-
--- a page that the memory has, put
-pub with_page-has : (m : Memory) (key : PageKey) (bytes : List ℕ) → is_some (page_at m key) ≡ true → with_page m key bytes ≡ map.insert m key bytes
-unfolding with_page
-with_page-has m key bytes has = ap (λ b. cond b (map.insert m key bytes) m) has
-
--- a page that it lacks, put
-pub with_page-lacks : (m : Memory) (key : PageKey) (bytes : List ℕ) → is_some (page_at m key) ≡ false → with_page m key bytes ≡ m
-unfolding with_page
-with_page-lacks m key bytes lacks = ap (λ b. cond b (map.insert m key bytes) m) lacks
-
--- the page that was put
-pub page_put : (m : Memory) (key : PageKey) (bytes : List ℕ) → is_some (page_at m key) ≡ true → page_at (with_page m key bytes) key ≡ Some bytes
-page_put m key bytes has = ap (λ n. page_at n key) (with_page-has m key bytes has) ∙ get_same keys_total keys_exact m key bytes
-
--- another page
-pub page_other : (m : Memory) (key other : PageKey) (bytes : List ℕ) → other ≢ key → page_at (with_page m key bytes) other ≡ page_at m other
-page_other m key other bytes ne = go (is_some (page_at m key)) refl where
-  go : (b : Bool) → is_some (page_at m key) ≡ b → page_at (with_page m key bytes) other ≡ page_at m other
-  go true has = ap (λ n. page_at n other) (with_page-has m key bytes has) ∙ get_other keys_total keys_exact m key other bytes ne
-  go false lacks = ap (λ n. page_at n other) (with_page-lacks m key bytes lacks)
-
--- not there
-pub lacking : (m : Memory) (key : PageKey) → (is_some (page_at m key) ≡ true → ⊥) → is_some (page_at m key) ≡ false
-lacking m key away = go (is_some (page_at m key)) refl where
-  go : (b : Bool) → is_some (page_at m key) ≡ b → b ≡ false
-  go true e = absurd (away e)
-  go false e = refl
-
--- no rule refuses a Put
-pub put_admissible : (s : State) (key : PageKey) (bytes : List ℕ) → fault_of s (Put key bytes) ≡ None
-unfolding fault_of
-put_admissible s key bytes = refl
 
 -- what the first act's test makes of a run
 pub run-first : (s : State) (act : Act) (acts : List Act) (b : Bool) → is_admissible s act ≡ b → run s (act ∷ acts) ≡ cond b (run (step s act) acts) s
@@ -123,10 +90,10 @@ run_front s [] = (refl, refl)
 run_front s (act ∷ acts) = more_front s act acts (is_admissible s act) refl (run_front (step s act) acts)
 
 -- the heads and the tails of equal lists
-head_same : (x y : Act) (xs ys : List Act) → x ∷ xs ≡ y ∷ ys → x ≡ y
+pub head_same : (x y : Act) (xs ys : List Act) → x ∷ xs ≡ y ∷ ys → x ≡ y
 head_same x y xs ys e = cc e
 
-tail_same : (x y : Act) (xs ys : List Act) → x ∷ xs ≡ y ∷ ys → xs ≡ ys
+pub tail_same : (x y : Act) (xs ys : List Act) → x ∷ xs ≡ y ∷ ys → xs ≡ ys
 tail_same x y xs ys e = cc e
 
 -- the act at which a run ends isn't admissible

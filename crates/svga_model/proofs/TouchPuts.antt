@@ -12,13 +12,14 @@ use Rattle.svga_model.specs.States.{State}
 use Rattle.svga_model.specs.Steps.{places_for, read_back, step}
 use Rattle.svga_model.specs.Touches.{AgreeOn, IsPut, Touches, has_page, touches}
 use Rattle.svga_model.proofs.TouchLaws.{gmrfb_places, same_fault, same_kept, same_touches, shown_memory}
-use Rattle.svga_model.proofs.TouchWrites.{with_page_other, written_put}
+use Rattle.svga_model.proofs.TouchWrites.{written_put}
+use Rattle.svga_model.proofs.PutLaws.{page_other}
 
 -- a Put of a page that an act doesn't touch leaves the pages that it touches
 put_agrees : (s : State) (act : Act) (key : PageKey) (bytes : List ℕ)
     → (Touches s act key → ⊥) → AgreeOn s (step s (Put key bytes)) act
 put_agrees s act key bytes off q has =
-    sym (with_page_other s.memory key q bytes (λ is. off (subst (λ k. Touches s act k) is has)))
+    sym (page_other s.memory key q bytes (λ is. off (subst (λ k. Touches s act k) is has)))
 
 -- it leaves the act's fault
 pub put_fault : (s : State) (act : Act) (key : PageKey) (bytes : List ℕ)

@@ -9,52 +9,21 @@ use Rattle.svga_model.specs.Memories.{ByteWrite, page_bytes, with_byte, with_pag
 use Rattle.svga_model.specs.RegionBytes.{byte_location}
 use Rattle.svga_model.specs.Regions.{Places}
 use Rattle.svga_model.specs.Touches.{has_page}
+use Rattle.svga_model.proofs.PutLaws.{page_other, with_page_agree}
 use Rattle.svga_model.proofs.TouchPages.{SameOn, has_byte}
 
 -- the memory with other bytes of a page, if it has the page
 abbrev put_if : Bool → Memory → PageKey → List ℕ → Memory
 put_if has m key bytes = cond has (map.insert m key bytes) m
 
--- what a page is once it was put: nothing, where the memory lacks it
-abbrev put_over : Option (List ℕ) → List ℕ → Option (List ℕ)
-put_over old bytes = cond (is_some old) (Some bytes) old
-
--- a page that is put leaves the others
-pub with_page_other : (m : Memory) (key q : PageKey) (bytes : List ℕ)
-    → q ≢ key → page_at (with_page m key bytes) q ≡ page_at m q
-unfolding with_page
-with_page_other m key q bytes ne = go (is_some (page_at m key)) where
-  go : (has : Bool) → page_at (put_if has m key bytes) q ≡ page_at m q
-  go true = get_other keys_total keys_exact m key q bytes ne
-  go false = refl
-
--- and it is what was put
-with_page_same : (m : Memory) (key : PageKey) (bytes : List ℕ)
-    → page_at (with_page m key bytes) key ≡ put_over (page_at m key) bytes
-unfolding with_page
-with_page_same m key bytes = go (is_some (page_at m key)) where
-  go : (has : Bool) → page_at (put_if has m key bytes) key ≡ cond has (Some bytes) (page_at m key)
-  go true = get_same keys_total keys_exact m key bytes
-  go false = refl
-
--- memories that have the same at two keys have the same at the second one after the same Put of the first to both
-with_page_agree : (m n : Memory) (key q : PageKey) (v w : List ℕ)
-    → v ≡ w → page_at m key ≡ page_at n key → page_at m q ≡ page_at n q
-    → page_at (with_page m key v) q ≡ page_at (with_page n key w) q
-with_page_agree m n key q v w bytes at same =
-    let here = with_page_same m key v ∙ ((λ i. put_over (at i) (bytes i)) ∙ sym (with_page_same n key w)) in
-    by_key keys_total keys_exact q key (page_at (with_page m key v) q ≡ page_at (with_page n key w) q)
-    (λ is. subst (λ k. page_at (with_page m key v) k ≡ page_at (with_page n key w) k) (sym is) here)
-    (λ ne. with_page_other m key q v ne ∙ (same ∙ sym (with_page_other n key q w ne)))
-
 -- Puts of two pages change places
 with_page_comm : (m : Memory) (k l : PageKey) (v w : List ℕ)
     → k ≢ l → with_page (with_page m k v) l w ≡ with_page (with_page m l w) k v
 unfolding with_page
 with_page_comm m k l v w ne =
-    ap (λ o. put_if (is_some o) (with_page m k v) l w) (with_page_other m k l v (λ e. ne (sym e)))
+    ap (λ o. put_if (is_some o) (with_page m k v) l w) (page_other m k l v (λ e. ne (sym e)))
     ∙ (go (is_some (page_at m k)) (is_some (page_at m l))
-    ∙ ap (λ o. put_if (is_some o) (with_page m l w) k v) (sym (with_page_other m l k w ne)))
+    ∙ ap (λ o. put_if (is_some o) (with_page m l w) k v) (sym (page_other m l k w ne)))
   where
     go : (b c : Bool) → put_if c (put_if b m k v) l w ≡ put_if b (put_if c m l w) k v
     go true true = insert_comm keys_total keys_exact m k l v w ne
@@ -72,7 +41,7 @@ byte_other : (m : Memory) (o : Option (PageKey × ℕ)) (byte : ℕ) (q : PageKe
     → page_at (with_byte m o byte) q ≡ page_at m q
 byte_other m None byte q off = refl
 byte_other m (Some at) byte q off =
-    with_page_other m at.0 q (slice_set (page_bytes m at.0) at.1 byte) (off at refl)
+    page_other m at.0 q (slice_set (page_bytes m at.0) at.1 byte) (off at refl)
 
 -- written bytes leave the pages that aren't their region's
 pub written_other : (places : Places) (m : Memory) (ws : List ByteWrite) (q : PageKey)
@@ -89,7 +58,7 @@ byte_agree : (m n : Memory) (o : Option (PageKey × ℕ)) (byte : ℕ) (q : Page
 byte_agree m n None byte q there same = same
 byte_agree m n (Some at) byte q there same = with_page_agree m n at.0 q
     (slice_set (page_bytes m at.0) at.1 byte) (slice_set (page_bytes n at.0) at.1 byte)
-    (ap (λ p. slice_set (unwrap_or p []) at.1 byte) (there at refl)) (there at refl) same
+    (ap (λ p. slice_set (unwrap_or p []) at.1 byte) (there at refl)) same
 
 -- memories with the same on a region's pages have the same there after the same writes to the region
 pub written_agree : (places : Places) (m n : Memory) (ws : List ByteWrite)
@@ -107,7 +76,7 @@ byte_put : (m : Memory) (o : Option (PageKey × ℕ)) (byte : ℕ) (key : PageKe
 byte_put m None byte key bytes off = refl
 byte_put m (Some at) byte key bytes off =
     ap (λ p. with_page (with_page m key bytes) at.0 (slice_set (unwrap_or p []) at.1 byte))
-    (with_page_other m key at.0 bytes (λ e. off at refl (sym e)))
+    (page_other m key at.0 bytes (λ e. off at refl (sym e)))
     ∙ with_page_comm m key at.0 bytes (slice_set (page_bytes m at.0) at.1 byte) (off at refl)
 
 -- written bytes change places with a Put of a page that isn't their region's

@@ -1,4 +1,4 @@
-use Rattle.svga_model.proofs.RunLaws.{lacking, page_other, page_put, put_admissible, with_page-lacks}
+use Rattle.svga_model.proofs.PutLaws.{lacking, page_other, page_put, put_admissible, with_page-lacks}
 use Rattle.svga_model.proofs.states.put_alone.Goals as goal
 
 pub returns-clause-page : goal.returns-clause-page
