@@ -3,6 +3,8 @@ pub mod Lent
 pub mod Limits
 pub mod Pages
 pub mod Reading
+pub mod Sessions
+pub mod Slots
 pub mod Spelling
 pub mod WellFormed
 pub mod Words

@@ -1,5 +1,5 @@
 -- Page keys in order, and memories: the bytes of pages by their keys.
-use Rattle.std.specs.Prelude.{◌≡◌, ◌↔◌, ℕ, ◌<◌, All, List, length, Option, IfSome, IsSome}
+use Rattle.std.specs.Prelude.{◌≡◌, ◌↔◌, ℕ, ◌<◌, All, List, length, replicate, Option, IfSome, IsSome}
 use Rattle.std.specs.FinMap as map
 use Rattle.std.specs.Ordering.{nat_cmp, ordering_then}
 use Rattle.std.specs.declared.cmp.Ordering.{Ordering}
@@ -45,3 +45,8 @@ pub record IsPage (bytes : List ℕ) : Type 0 where
 pub record IsMemoryOf (l : Limits) (m : Memory) : Type 0 where
   pub keys : (key : PageKey) → HasPage m key ↔ IsKey l key
   pub pages : (key : PageKey) → IfSome (page_at m key) IsPage
+
+-- so it is where no byte was written yet: the same keys, and only zeros
+pub record IsZeroMemoryOf (l : Limits) (m : Memory) : Type 0 where
+  pub keys : (key : PageKey) → HasPage m key ↔ IsKey l key
+  pub zeros : (key : PageKey) → IfSome (page_at m key) (λ bytes. bytes ≡ replicate 4096 0)

@@ -11,11 +11,14 @@ mod format;
 mod gmrfb;
 mod laws;
 mod limits;
+mod mem_pages;
 mod page;
 mod page_list;
 mod remap;
 mod remap_flags;
 mod screen;
+mod session;
+mod store;
 mod word;
 
 pub use blit::{Blit, Point, Rect};
@@ -25,10 +28,13 @@ pub use format::Format;
 pub use gmrfb::{Gmrfb, GuestPtr};
 pub use laws::unique_spelling;
 pub use limits::Limits;
+pub use mem_pages::MemPages;
 pub use page::{Page, PageKey};
 pub use page_list::PageList;
 pub use remap::{EntriesRef, RemapData};
 pub use screen::{Backing, ScreenDef};
+pub use session::{Session, Way};
+pub use store::PageStore;
 pub use word::{encode_short, word_at, word_count};
 
 #[cfg(test)]

@@ -1,6 +1,6 @@
 //! The limits of one device.
-ghost use Rattle.std.specs.Prelude.{◌≡◌};
-ghost use Rattle.svga_cmd.specs.Limits.{AreLimits, frame_page_count};
+ghost use Rattle.std.specs.Prelude.{◌≡◌, ◌↔◌, IsTrue};
+ghost use Rattle.svga_cmd.specs.Limits.{AreLimits, IsBetween, frame_page_count};
 
 /// How large a device is: its pages of guest memory, the guest framebuffer's sides, and how many pixels all
 /// screens together may have.
@@ -20,4 +20,21 @@ impl Limits {
     {
         (4 * self.gfb_width * self.gfb_height).div_ceil(4096)
     }
+
+    /// Whether a device may be so large.
+    pub(crate) fn are_allowed(&self) -> bool
+        ensures { IsTrue result ↔ AreLimits self.now }
+    {
+        is_between(1, 16384, self.pages)
+            && is_between(1, 4096, self.gfb_width)
+            && is_between(1, 2048, self.gfb_height)
+            && is_between(1, 33554432, self.budget)
+    }
+}
+
+/// Whether a number is from `low` to `high`, both included.
+pub(crate) fn is_between(low: u32, high: u32, number: u32) -> bool
+    ensures { IsTrue result ↔ IsBetween low high number }
+{
+    low <= number && number <= high
 }

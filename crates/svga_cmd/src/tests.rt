@@ -1,10 +1,13 @@
-// Worked spellings, and that memory is found where there is some.
+// Worked spellings, the ends of the limits, and that memory is found where there is some.
 ghost use Rattle.std.specs.Prelude.{◌≡◌};
+ghost use Rattle.svga_cmd.specs.Pages.{HasPage};
 ghost use Rattle.svga_cmd.specs.WellFormed.{IsShort, IsWellFormed};
+ghost use Rattle.svga_cmd.specs.declared.page.PageKey.{PageKey};
 
 use crate::{
-    Backing, Blit, Command, Fault, Format, Gmrfb, GuestPtr, Limits, Page, PageList, Point, Rect,
-    RemapData, ScreenDef, encode_short, word_at, word_count,
+    Backing, Blit, Command, Fault, Format, Gmrfb, GuestPtr, Limits, MemPages, Page, PageKey,
+    PageList, PageStore, Point, Rect, RemapData, ScreenDef, Session, Way, encode_short, word_at,
+    word_count,
 };
 use std::process::Abort;
 use std::test::Fail;
@@ -189,5 +192,96 @@ fn pages_limits_and_faults(rt: HostRuntime) -> Result<(), Fail> {
     assert_eq!(rt; limits.frame_pages(), 2);
     assert_eq!(rt; Fault::NoRegion.number(), 1);
     assert_eq!(rt; Fault::ChainLimit.number(), 15);
+    Ok(())
+}
+
+const SMALLEST: Limits = Limits {
+    pages: 1,
+    gfb_width: 1,
+    gfb_height: 1,
+    budget: 1,
+};
+
+#[test]
+fn rings_and_first_fences(rt: HostRuntime) {
+    for (ring, first, opens) in [
+        (11400, 1, false),
+        (11403, 1, false),
+        (11404, 1, true),
+        (11405, 1, false),
+        (11406, 1, false),
+        (11408, 1, true),
+        (262140, 1, true),
+        (262144, 1, true),
+        (262148, 1, false),
+        (0, 1, false),
+        (11404, 0, false),
+        (11404, 4294967295, true),
+    ] {
+        let session = Session::new(ring, SMALLEST, first, Way::Dword);
+        assert_eq!(rt; session.is_some(), opens, "ring {ring}, first {first}");
+    }
+    let session = Session::new(65536, SMALLEST, 7, Way::Reserve);
+    let fields = session.map(|s| (s.ring, s.limits, s.first, s.way));
+    assert_eq!(rt; fields, Some((65536, SMALLEST, 7, Way::Reserve)));
+}
+
+#[test]
+fn limits_of_devices(rt: HostRuntime) {
+    for (pages, gfb_width, gfb_height, budget, opens) in [
+        (1, 1, 1, 1, true),
+        (16384, 4096, 2048, 33554432, true),
+        (0, 4096, 2048, 33554432, false),
+        (16385, 4096, 2048, 33554432, false),
+        (16384, 0, 2048, 33554432, false),
+        (16384, 4097, 2048, 33554432, false),
+        (16384, 4096, 0, 33554432, false),
+        (16384, 4096, 2049, 33554432, false),
+        (16384, 4096, 2048, 0, false),
+        (16384, 4096, 2048, 33554433, false),
+    ] {
+        let limits = Limits {
+            pages,
+            gfb_width,
+            gfb_height,
+            budget,
+        };
+        let session = Session::new(11404, limits, 1, Way::Reserve);
+        assert_eq!(rt; session.is_some(), opens, "{limits:?}");
+    }
+}
+
+fn last_byte<P: PageStore>(store: &P, key: PageKey) -> u8
+    requires { HasPage (P.pages store.now) key }
+{
+    store.page(key).bytes()[4095]
+}
+
+fn set_last_byte<P: PageStore>(store: &mut P, key: PageKey, byte: u8)
+    requires { HasPage (P.pages store.old) key }
+    ensures { (q : PageKey) → HasPage (P.pages store.old) q → HasPage (P.pages store.new) q }
+{
+    let bytes = store.page_mut(key).bytes_mut();
+    bytes[4095] = byte;
+}
+
+#[test]
+fn pages_in_memory(rt: HostRuntime) -> Result<(), Fail> {
+    // 33 times 32 pixels are one page and a part of another.
+    let limits = Limits {
+        pages: 2,
+        gfb_width: 33,
+        gfb_height: 32,
+        budget: 1,
+    };
+    let mut store = MemPages::new(rt.alloc(), limits)?;
+    assert_eq!(rt; last_byte(&store, PageKey::Guest(0)), 0);
+    assert_eq!(rt; last_byte(&store, PageKey::Frame(1)), 0);
+    set_last_byte(&mut store, PageKey::Guest(1), 5);
+    set_last_byte(&mut store, PageKey::Frame(0), 6);
+    assert_eq!(rt; last_byte(&store, PageKey::Guest(0)), 0);
+    assert_eq!(rt; last_byte(&store, PageKey::Guest(1)), 5);
+    assert_eq!(rt; last_byte(&store, PageKey::Frame(0)), 6);
+    assert_eq!(rt; last_byte(&store, PageKey::Frame(1)), 0);
     Ok(())
 }
