@@ -1,6 +1,5 @@
 -- The fault of an act, and when there is none.
-use Rattle.std.proofs.Common.{◌≡◌, refl, Bool, true, false, Option, Some, None, is_none}
-use Rattle.svga_cmd.specs.declared.fault.Fault.{Fault}
+use Rattle.std.proofs.Common.{◌≡◌, refl, true, Option, Some, None, is_none}
 use Rattle.svga_model.specs.Acts.{Act}
 use Rattle.svga_model.specs.Faults.{act_tests, fault_of}
 use Rattle.svga_model.specs.Standing.{least_standing}

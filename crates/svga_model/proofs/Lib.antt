@@ -37,3 +37,12 @@ pub mod ValidRules
 pub mod ValidRuns
 pub mod ValidScreens
 pub mod ValidStateLaws
+pub mod WorkedBlits
+pub mod WorkedCorner
+pub mod WorkedOverlap
+pub mod WorkedRegions
+pub mod WorkedRemaps
+pub mod WorkedRules
+pub mod WorkedScreens
+pub mod WorkedSplit
+pub mod WorkedUpdate

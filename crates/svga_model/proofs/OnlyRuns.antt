@@ -1,13 +1,11 @@
 -- Two states that have the same on the pages that a run meets run alike.
-use Rattle.std.proofs.Common.{◌≡◌, ℕ, suc, refl, sym, ap, subst, ◌∙◌, List, [], ◌∷◌, ◌++◌, take, Bool, true, false, cond, None, is_none, is_some}
+use Rattle.std.proofs.Common.{◌≡◌, suc, refl, sym, ap, subst, ◌∙◌, List, [], ◌∷◌, ◌++◌, take, Bool, true, false, cond, None, is_none}
 use Rattle.std.specs.FinMap as map
 use Rattle.svga_cmd.specs.declared.page.PageKey.{PageKey}
-use Rattle.svga_cmd.specs.Pages.{Memory, page_at}
-use Rattle.svga_cmd.proofs.KeyLaws.{keys_total, keys_exact}
-use Rattle.svga_cmd.proofs.Maps.{by_key}
+use Rattle.svga_cmd.specs.Pages.{page_at}
+use Rattle.svga_cmd.proofs.KeyLaws.{keys_exact}
 use Rattle.svga_model.specs.Acts.{Act, Do, Put, Chain}
 use Rattle.svga_model.specs.Faults.{fault_of, is_admissible}
-use Rattle.svga_model.specs.Memories.{with_page}
 use Rattle.svga_model.specs.Runs.{done, is_met, only, run}
 use Rattle.svga_model.specs.States.{State}
 use Rattle.svga_model.specs.Steps.{step}

@@ -1,14 +1,14 @@
 -- Blits that have no pixels.
-use Rattle.std.proofs.Common.{◌≡◌, ◌≢◌, ℕ, zero, suc, ◌+◌, ◌<◌, ◌≤◌, ℤ, pos, List, [], ◌∷◌, ◌++◌, Bool, true, false, cond, refl, sym, ap, ◌∙◌, Option, Some, None, arith, ◌==◌, ◌||◌, ◌&&◌, ◌⊎◌, inl, inr}
+use Rattle.std.proofs.Common.{◌≡◌, ◌≢◌, ℕ, zero, suc, ◌+◌, ◌<◌, ℤ, pos, List, [], ◌∷◌, ◌++◌, Bool, true, false, cond, refl, sym, ap, ◌∙◌, Option, Some, None, arith, ◌||◌, ◌&&◌, ◌⊎◌, inl, inr}
 use Rattle.std.proofs.lemmas.Bool.{cases_eq}
 use Rattle.std.proofs.lemmas.Bool.Decides.{nat_tests}
 use Rattle.std.specs.Int.{int_gap}
 use Rattle.std.specs.List.{cons_option, filter_map, flat_map, range_with_len}
-use Rattle.std.specs.Prelude.{int_lt, negsuc, map, ◌+ℤ◌, ◌-ℤ◌, unsigned_abs, is_none, is_some, slice_index_or}
+use Rattle.std.specs.Prelude.{int_lt, negsuc, map, ◌+ℤ◌, ◌-ℤ◌, unsigned_abs}
 use Rattle.svga_cmd.specs.declared.blit.Blit.{Blit}
 use Rattle.svga_cmd.specs.declared.gmrfb.Gmrfb.{Gmrfb}
 use Rattle.svga_cmd.specs.declared.screen.ScreenDef.{ScreenDef}
-use Rattle.svga_model.specs.BlitPixels.{BlitPixel, ScreenPixel, all_screens, blit_offset, blit_pixel, blit_pixels, corner_x, corner_y, covered_on, covers, int_range, is_in_area, is_meant, pixel_there}
+use Rattle.svga_model.specs.BlitPixels.{all_screens, blit_offset, blit_pixel, blit_pixels, corner_x, corner_y, covered_on, covers, int_range, is_in_area, is_meant, pixel_there}
 
 -- a filter that lets no number of a range through
 pub filter_map-none_below : {Y : Type 0} (f : ℕ → Option Y) (from n : ℕ) → ((x : ℕ) → x < from + n → f x ≡ None) → filter_map f (range_with_len from n) ≡ []

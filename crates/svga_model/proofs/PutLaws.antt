@@ -1,5 +1,5 @@
 -- Puts of pages, each by itself.
-use Rattle.std.proofs.Common.{◌≡◌, ◌≢◌, ℕ, List, Bool, true, false, cond, refl, sym, ap, subst, ◌∙◌, Option, Some, None, is_some}
+use Rattle.std.proofs.Common.{◌≡◌, ◌≢◌, ℕ, List, Bool, true, false, cond, refl, sym, ap, subst, ◌∙◌, Some, None, is_some}
 use Rattle.std.specs.FinMap as map
 use Rattle.svga_cmd.specs.Pages.{Memory, page_at}
 use Rattle.svga_cmd.specs.declared.page.PageKey.{PageKey}

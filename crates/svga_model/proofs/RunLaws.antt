@@ -1,13 +1,7 @@
 -- Runs by parts.
-use Rattle.std.proofs.Common.{◌≡◌, ◌≢◌, ℕ, zero, suc, ◌+◌, ◌<◌, ◌≤◌, List, [], ◌∷◌, ◌++◌, length, take, Bool, true, false, cond, refl, sym, ap, subst, ◌∙◌, Option, Some, None, is_none, is_some, arith}
-use Rattle.std.specs.FinMap as map
-use Rattle.svga_cmd.specs.Pages.{Memory, page_at}
-use Rattle.svga_cmd.specs.declared.page.PageKey.{PageKey}
-use Rattle.svga_cmd.proofs.KeyLaws.{keys_total, keys_exact}
-use Rattle.svga_cmd.proofs.Maps.{get_same, get_other}
-use Rattle.svga_model.specs.Acts.{Act, Put}
+use Rattle.std.proofs.Common.{◌≡◌, suc, ◌+◌, ◌<◌, ◌≤◌, List, [], ◌∷◌, ◌++◌, length, take, Bool, true, false, cond, refl, sym, ap, ◌∙◌, None, is_none, arith}
+use Rattle.svga_model.specs.Acts.{Act}
 use Rattle.svga_model.specs.Faults.{fault_of, is_admissible}
-use Rattle.svga_model.specs.Memories.{with_page}
 use Rattle.svga_model.specs.Runs.{done, run}
 use Rattle.svga_model.specs.States.{State}
 use Rattle.svga_model.specs.Steps.{step}

@@ -4,7 +4,7 @@ use Rattle.std.specs.FinMap as map
 use Rattle.svga_cmd.specs.declared.page.PageKey.{PageKey}
 use Rattle.svga_cmd.specs.Pages.{Memory, page_at}
 use Rattle.svga_cmd.proofs.KeyLaws.{keys_total, keys_exact}
-use Rattle.svga_cmd.proofs.Maps.{by_key, get_same, get_other, insert_comm}
+use Rattle.svga_cmd.proofs.Maps.{insert_comm}
 use Rattle.svga_model.specs.Memories.{ByteWrite, page_bytes, with_byte, with_page, written}
 use Rattle.svga_model.specs.RegionBytes.{byte_location}
 use Rattle.svga_model.specs.Regions.{Places}

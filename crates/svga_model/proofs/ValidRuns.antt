@@ -1,5 +1,5 @@
 -- A run keeps what makes a state valid.
-use Rattle.std.proofs.Common.{◌≡◌, List, [], ◌∷◌, Bool, true, false, cond, refl, sym, subst, All}
+use Rattle.std.proofs.Common.{◌≡◌, List, [], ◌∷◌, Bool, true, false, refl, sym, subst, All}
 use Rattle.std.proofs.lemmas.List.Elements.{All-head, All-tail}
 use Rattle.svga_model.proofs.ActLaws.{none_is}
 use Rattle.svga_model.proofs.RunLaws.{run-first}

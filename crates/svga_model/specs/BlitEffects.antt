@@ -1,5 +1,5 @@
 -- What the commands that move pixels do to screens and to a region's bytes.
-use Rattle.std.specs.Prelude.{ℕ, ◌+◌, ◌*◌, ℤ, pos, ◌+ℤ◌, unsigned_abs, List, [], ◌∷◌, map as map_list, slice_index, slice_index_or, ◌&&◌, if◌then◌else◌, Option, Some, None, option_map, unwrap_or}
+use Rattle.std.specs.Prelude.{ℕ, ◌+◌, ◌*◌, pos, ◌+ℤ◌, unsigned_abs, List, [], ◌∷◌, map as map_list, slice_index, ◌&&◌, if◌then◌else◌, Option, Some, None, option_map, unwrap_or}
 use Rattle.std.specs.FinMap as map
 use Rattle.std.specs.List.{flat_map, range_with_len}
 use Rattle.svga_cmd.specs.declared.blit.Blit.{Blit}

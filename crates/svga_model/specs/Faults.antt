@@ -1,5 +1,5 @@
 -- The rules by which an act is refused, and the fault that it has.
-use Rattle.std.specs.Prelude.{◌≡◌, ℕ, List, [], ◌∷◌, ◌++◌, Bool, true, nat_lt, ◌==◌, ◌&&◌, not, is_none, Option, Some, None}
+use Rattle.std.specs.Prelude.{◌≡◌, ℕ, List, [], ◌∷◌, ◌++◌, Bool, nat_lt, ◌==◌, ◌&&◌, not, is_none, Option, Some, None}
 use Rattle.svga_cmd.specs.Limits.{frame_page_count}
 use Rattle.svga_cmd.specs.declared.command.Command.{Command}
 use Rattle.svga_cmd.specs.declared.command.Command.TheVariants.{Update, Fence, DefineScreen, DestroyScreen, DefineGmrfb, BlitToScreen, BlitToGmrfb, DefineGmr2, RemapGmr2}

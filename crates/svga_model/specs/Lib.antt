@@ -28,3 +28,4 @@ pub mod Tabulated
 pub mod Touches
 pub mod ValidStates
 pub mod Walks
+pub mod Worked

@@ -1,11 +1,9 @@
 -- Page numbers that a remap by VIA_GMR reads from a region.
 use Rattle.std.specs.Prelude.{ℕ, zero, suc, ◌+◌, ◌*◌, List, [], map as map_list, Bool, not, ◌&&◌, if◌then◌else◌, Option, Some, None, unwrap_or}
 use Rattle.std.specs.List.{range_with_len, list_any}
-use Rattle.svga_cmd.specs.Limits.{frame_page_count}
 use Rattle.svga_cmd.specs.Pages.{Memory}
 use Rattle.svga_cmd.specs.declared.fault.Fault.{Fault}
 use Rattle.svga_cmd.specs.declared.gmrfb.GuestPtr.{GuestPtr}
-use Rattle.svga_cmd.specs.declared.limits.Limits.{Limits}
 use Rattle.svga_cmd.specs.declared.remap.RemapData.{RemapData}
 use Rattle.svga_cmd.specs.declared.remap.RemapData.TheVariants.{Ppn32, Ppn64, SinglePpn32, SinglePpn64, ViaGmr32, ViaGmr64}
 use Rattle.svga_model.specs.Memories.{region_byte}

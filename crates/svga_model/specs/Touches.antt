@@ -1,5 +1,5 @@
 -- Which pages an act may read or write. It is meant of admissible acts, and of a chain also where its walk is refused.
-use Rattle.std.specs.Prelude.{◌≡◌, ⊤, ℕ, List, [], ◌∷◌, Bool, true, false, ◌==◌, if◌then◌else◌, Option, Some, None, option_map, unwrap_or, option_and_then}
+use Rattle.std.specs.Prelude.{◌≡◌, ⊤, ℕ, List, [], Bool, true, false, ◌==◌, if◌then◌else◌, Option, Some, None, option_map, unwrap_or, option_and_then}
 use Rattle.std.specs.List.{list_any}
 use Rattle.std.specs.Ordering.{eq_by_cmp}
 use Rattle.svga_cmd.specs.Pages.{key_cmp, page_at}

@@ -1,6 +1,6 @@
 -- What holds of every state of a device, and of one whose memory is cut down. Numbers aren't bounded by their words here:
 -- a value of the code's types has them bounded, and no effect makes them greater.
-use Rattle.std.specs.Prelude.{◌≡◌, ◌⊎◌, ℕ, ◌<◌, ◌≤◌, All, List, Option, None, IfSome}
+use Rattle.std.specs.Prelude.{◌≡◌, ◌⊎◌, ℕ, ◌<◌, ◌≤◌, All, None, IfSome}
 use Rattle.std.specs.FinMap as map
 use Rattle.svga_cmd.specs.Limits.{AreLimits}
 use Rattle.svga_cmd.specs.Pages.{HasPage, IsKey, IsPage, Memory, page_at}

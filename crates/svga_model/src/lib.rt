@@ -4,6 +4,7 @@
 #![tactic(auto)]
 
 mod addresses;
+mod examples;
 mod faults;
 mod fences;
 mod grammar;
@@ -13,6 +14,10 @@ mod states;
 mod touches;
 
 pub use addresses::one_turn;
+pub use examples::{
+    blit_at_a_corner, empty_region, overlapping_screens, pixel_over_two_places,
+    remap_of_its_own_numbers, update_past_the_edge,
+};
 pub use faults::{fault_of_act, least_fault};
 pub use fences::fence_order;
 pub use grammar::{one_ending, refused_word, viable_words};
