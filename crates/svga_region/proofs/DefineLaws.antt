@@ -1,5 +1,5 @@
 -- What the regions are after a change of one list.
-use Rattle.std.proofs.Common.{◌≡◌, ◌≢◌, ℕ, zero, suc, ◌+◌, ◌<◌, ◌≤◌, refl, sym, ap, subst, ◌∙◌, Option, Some, None, List, [], ◌∷◌, length, arith, nat_lt, nat_le, not, ◌==◌, ◌&&◌, Bool, true, false, cond, slice_index_or, slice_set, replicate, sum_by, unwrap_or, get_or-set_same, get_or-set_other, is_some, is_none, All, ◌⊎◌, inl, inr}
+use Rattle.std.proofs.Common.{◌≡◌, ◌≢◌, ℕ, zero, suc, ◌+◌, ◌-◌, ◌<◌, ◌≤◌, refl, sym, ap, subst, ◌∙◌, Option, Some, None, List, [], ◌∷◌, length, arith, nat_lt, nat_le, not, ◌==◌, ◌&&◌, Bool, true, false, cond, slice_index_or, slice_set, replicate, sum_by, unwrap_or, get_or-set_same, get_or-set_other, is_some, is_none, All, ◌⊎◌, inl, inr}
 use Rattle.std.specs.List.{range_with_len, list_any}
 use Rattle.std.proofs.lemmas.Bool.{cases_lt}
 use Rattle.std.proofs.lemmas.List.{same_lists, length-set, get_or_default, get_or_past, get_or-replicate, length-replicate}
@@ -10,6 +10,7 @@ use Rattle.std.specs.FinMap as map
 use Rattle.std.specs.FinMap.{nat_cmp-IsAntisymmetric, get-empty}
 use Rattle.svga_cmd.proofs.Maps.{is_insert, is_remove, same_gets}
 use Rattle.svga_cmd.specs.declared.fault.Fault.TheVariants as fault
+use Rattle.svga_cmd.specs.declared.page.PageKey.{PageKey}
 use Rattle.svga_model.proofs.TabulatedLaws.{get-tabulated_past}
 use Rattle.svga_model.specs.Regions.{Places, Regions, defined_places, region_length, place_count, places_with, define_tests, with_region, remap_tests, guest_places, remapped, with_remap}
 use Rattle.svga_model.specs.Standing.{first_standing}
@@ -190,3 +191,47 @@ slots_kept defined lists id list l e same slots = record {
   empty = λ i f. get_or-set_other lists id i list [] (λ is. cc (e, f, ap (λ k. slice_index_or defined k false) is)) ∙ slots.empty i f;
   total = omega (arith, slots.total, sum_by-set length lists id list [] (omega (arith, slots.lists_count)));
 }
+
+-- new places that there is room for keep the slots in order
+pub slots_defined : (defined : List Bool) (lists : List Places) (id pages : ℕ) → id < 4096
+    → sum_by length lists - length (slice_index_or lists id []) + pages ≤ 65536 → AreSlots defined lists
+    → AreSlots (slice_set defined id (not (pages == 0))) (slice_set lists id (replicate pages None))
+slots_defined defined lists id pages small room slots = record {
+  flags = length-set defined id some ∙ slots.flags;
+  lists_count = length-set lists id list ∙ slots.lists_count;
+  empty = λ i f. at i (cases_lt i id) (cases_lt id i) f;
+  total = omega (
+    arith,
+    room,
+    sum_by-set length lists id list [] (omega (arith, slots.lists_count)),
+    length-replicate {A = Option PageKey} pages None,
+  );
+} where
+  some : Bool
+  some = not (pages == 0)
+
+  list : Places
+  list = replicate pages None
+
+  other : (i : ℕ) → i ≢ id → slice_index_or (slice_set defined id some) i false ≡ false
+      → slice_index_or (slice_set lists id list) i [] ≡ []
+  other i ne f = get_or-set_other lists id i list [] ne
+      ∙ slots.empty i (sym (get_or-set_other defined id i some false ne) ∙ f)
+
+  none_by : (n : ℕ) → not (n == 0) ≡ false → n ≡ 0
+  none_by n e = grind (arith, nat_tests)
+
+  same : (i : ℕ) → i ≡ id → slice_index_or (slice_set defined id some) i false ≡ false
+      → slice_index_or (slice_set lists id list) i [] ≡ []
+  same i is f =
+      let flag = sym (get_or-set_same defined id some false (omega (arith, slots.flags)))
+      ∙ ap (λ k. slice_index_or (slice_set defined id some) k false) (sym is) ∙ f in
+      ap (λ k. slice_index_or (slice_set lists id list) k []) is
+      ∙ get_or-set_same lists id list [] (omega (arith, slots.lists_count))
+      ∙ ap (λ n. replicate n None) (none_by pages flag)
+
+  at : (i : ℕ) → (i < id) ⊎ (id ≤ i) → (id < i) ⊎ (i ≤ id) → slice_index_or (slice_set defined id some) i false ≡ false
+      → slice_index_or (slice_set lists id list) i [] ≡ []
+  at i (inl a) h f = other i (λ e. absurd (omega arith)) f
+  at i (inr a) (inl b) f = other i (λ e. absurd (omega arith)) f
+  at i (inr a) (inr b) f = same i (omega arith) f

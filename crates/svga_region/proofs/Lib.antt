@@ -1,3 +1,4 @@
+pub mod AllowedLaws
 pub mod ChainLaws
 pub mod DefineLaws
 pub mod EntryLaws

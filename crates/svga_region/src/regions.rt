@@ -81,14 +81,8 @@ impl Regions {
         ensures ok { OnOk result (self.new ≡ record self.old { regions = with_region self.old.regions id pages }) }
         ensures err { OnErr result (self.new ≡ self.old) }
     {
-        if id > 4095 {
-            return Err(Fault::RegionId);
-        }
+        self.may_define(id, pages)?;
         let slot = id as usize;
-        let rest = self.lists.total() - self.lists.list(slot).len();
-        if rest + pages as usize > 65536 {
-            return Err(Fault::PlaceLimit);
-        }
         self.lists.replace(slot, pages as usize, None);
         self.defined[slot] = pages != 0;
         Ok(())
@@ -108,6 +102,30 @@ impl Regions {
         ensures ok { OnOk result (self.new ≡ record self.old { regions = with_remap self.old.regions id offset (range_pages (entries_of entries.entry) pages) }) }
         ensures err { OnErr result (self.new ≡ self.old) }
     {
+        self.may_remap(id, offset, pages, entries)?;
+        let slot = id as usize;
+        put_entries(&mut self.lists, slot, offset, self.guest, entries, pages);
+        Ok(())
+    }
+
+    /// What `define` would be refused with.
+    pub fn may_define(&self, id: u32, pages: u32) -> Result<(), Fault>
+        ensures { result_err result ≡ first_standing (define_tests self.now.regions id pages) }
+    {
+        if id > 4095 {
+            return Err(Fault::RegionId);
+        }
+        let rest = self.lists.total() - self.lists.list(id as usize).len();
+        if rest + pages as usize > 65536 {
+            return Err(Fault::PlaceLimit);
+        }
+        Ok(())
+    }
+
+    /// What a remap of these places would be refused with if its entries name pages of the guest.
+    pub fn may_remap_range(&self, id: u32, offset: u32, pages: u32) -> Result<(), Fault>
+        ensures { result_err result ≡ first_standing (remap_tests self.now.guest self.now.regions id offset pages []) }
+    {
         if id > 4095 {
             return Err(Fault::RegionId);
         }
@@ -118,10 +136,25 @@ impl Regions {
         if offset as usize + pages as usize > self.lists.list(slot).len() {
             return Err(Fault::RangeBeyond);
         }
+        Ok(())
+    }
+
+    /// What `remap` would be refused with.
+    pub fn may_remap(
+        &self,
+        id: u32,
+        offset: u32,
+        pages: u32,
+        entries: EntriesRef<'_>,
+    ) -> Result<(), Fault>
+        requires named { AreNamed (entries_of entries) }
+        requires fits { HasEntries (entries_of entries) pages }
+        ensures { result_err result ≡ first_standing (remap_tests self.now.guest self.now.regions id offset pages (named_pages (entries_of entries.entry) pages)) }
+    {
+        self.may_remap_range(id, offset, pages)?;
         if name_bad_page(self.guest, entries, pages) {
             return Err(Fault::BadPage);
         }
-        put_entries(&mut self.lists, slot, offset, self.guest, entries, pages);
         Ok(())
     }
 

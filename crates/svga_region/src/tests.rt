@@ -172,6 +172,77 @@ fn remaps_by_their_entries(rt: HostRuntime) -> Result<(), Fail> {
 }
 
 #[test]
+fn lengths_are_judged_alone(rt: HostRuntime) -> Result<(), Fail> {
+    let mut regions = Regions::new(rt.alloc(), 32, 1)?;
+    assert_eq!(rt; regions.define(1, 4), Ok(()));
+    let answers = [
+        (1, 65536, Ok(())),
+        (1, 65537, Err(Fault::PlaceLimit)),
+        (2, 65532, Ok(())),
+        (2, 65533, Err(Fault::PlaceLimit)),
+        (4096, 0, Err(Fault::RegionId)),
+    ];
+    for (id, pages, answer) in answers {
+        assert_eq!(rt; regions.may_define(id, pages), answer, "at {id} {pages}");
+    }
+    assert_eq!(rt; regions.length(1), Some(4));
+    assert_eq!(rt; regions.length(2), None);
+    Ok(())
+}
+
+#[test]
+fn ranges_are_judged_alone(rt: HostRuntime) -> Result<(), Fail> {
+    let mut regions = Regions::new(rt.alloc(), 32, 1)?;
+    assert_eq!(rt; regions.define(1, 4), Ok(()));
+    let answers = [
+        (1, 0, 4, Ok(())),
+        (1, 4, 0, Ok(())),
+        (1, 1, 4, Err(Fault::RangeBeyond)),
+        (1, 0xFFFF_FFFF, 1, Err(Fault::RangeBeyond)),
+        (2, 0, 0, Err(Fault::NoRegion)),
+        (4096, 0, 0, Err(Fault::RegionId)),
+    ];
+    for (id, offset, pages, answer) in answers {
+        assert_eq!(rt;
+            regions.may_remap_range(id, offset, pages),
+            answer,
+            "at {id} {offset} {pages}"
+        );
+    }
+    Ok(())
+}
+
+#[test]
+fn remaps_are_judged_alone(rt: HostRuntime) -> Result<(), Fail> {
+    let mut regions = Regions::new(rt.alloc(), 32, 1)?;
+    let bad = EntriesRef::SinglePpn32(32);
+    assert_eq!(rt; regions.define(1, 4), Ok(()));
+    assert_eq!(rt;
+        regions.may_remap(1, 2, 2, EntriesRef::Ppn32(&[31, 0])),
+        Ok(())
+    );
+    assert_eq!(rt;
+        regions.may_remap(1, 2, 2, EntriesRef::Ppn32(&[31, 32])),
+        Err(Fault::BadPage)
+    );
+    let answers = [
+        (1, 4, 0, Err(Fault::BadPage)),
+        (1, 4, 1, Err(Fault::RangeBeyond)),
+        (2, 0, 1, Err(Fault::NoRegion)),
+        (4096, 0, 1, Err(Fault::RegionId)),
+    ];
+    for (id, offset, pages, answer) in answers {
+        assert_eq!(rt;
+            regions.may_remap(id, offset, pages, bad),
+            answer,
+            "at {id} {offset} {pages}"
+        );
+    }
+    assert_eq!(rt; regions.place(1, 2), None);
+    Ok(())
+}
+
+#[test]
 fn bytes_by_their_places(rt: HostRuntime) -> Result<(), Fail> {
     let mut regions = Regions::new(rt.alloc(), 32, 2)?;
     assert_eq!(rt; regions.define(1, 2), Ok(()));

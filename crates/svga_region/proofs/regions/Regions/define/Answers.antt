@@ -1,33 +1,58 @@
-use Rattle.std.proofs.Common.{◌==◌, not, length, sym, ap, ◌∙◌, arith, slice_set}
+use Rattle.std.proofs.Common.{rules, ◌≡◌, ◌==◌, not, sym, ap, subst, ◌∙◌, arith, slice_set}
 use Rattle.std.specs.Prelude.{option_map}
+use Rattle.std.specs.Result.{result_err}
 use Rattle.svga_model.specs.Regions.{define_tests, with_region}
 use Rattle.svga_model.specs.Standing.{first_standing}
-use Rattle.svga_region.specs.Kept.{regions_of, chain_of}
-use Rattle.svga_region.proofs.DefineLaws.{regions_of-define, place_count-slots, length_in-slot, define_over, define_within, twice}
+use Rattle.svga_region.specs.Kept.{regions_of, chain_of, AreSlots}
+use Rattle.svga_region.proofs.AllowedLaws.{define_deleted, define_id, define_room}
+use Rattle.svga_region.proofs.DefineLaws.{regions_of-define, slots_defined, twice}
 use Rattle.svga_region.proofs.regions.Regions.define.Goals as goal
 
-pub returns-then-rest-pages-gt65536-clause-fault : goal.returns-then-rest-pages-gt65536-clause-fault
-returns-then-rest-pages-gt65536-clause-fault c =
-    let count = place_count-slots c.self.inside.defined.items c.self.inside.lists.lists c.self.invariant.2.lists_count c.self.invariant.2.empty in
-    let len = length_in-slot c.self.inside.defined.items c.self.inside.lists.lists c.args.id (omega arith) c.self.invariant.2.empty in
-    sym (define_over (regions_of c.self.inside.defined.items c.self.inside.lists.lists) c.args.id c.args.pages (omega arith) (omega (arith, count, len, c.total.ensures.total, ap length c.list.ensures)))
-    ∙ ap (λ r. first_standing (define_tests r.regions c.args.id c.args.pages)) c.self.view_is
+pub returns-in_err-may_define-clause-deletion : goal.returns-in_err-may_define-clause-deletion
+returns-in_err-may_define-clause-deletion c = λ none.
+    let slots = c.self.inside in
+    let now = c.args.self.now.regions in
+    let view = ap (λ r. r.regions) c.self.view_is in
+    let told : result_err c.from_residual.result ≡ first_standing (define_tests now c.args.id c.args.pages) = search rules in
+    told ∙ define_deleted slots.defined.items slots.lists.lists now c.args.id c.args.pages c.self.invariant.2 view none
 
-pub returns-clause-fault : goal.returns-clause-fault
-returns-clause-fault c =
-    let count = place_count-slots c.self.inside.defined.items c.self.inside.lists.lists c.self.invariant.2.lists_count c.self.invariant.2.empty in
-    let len = length_in-slot c.self.inside.defined.items c.self.inside.lists.lists c.args.id (omega arith) c.self.invariant.2.empty in
-    sym (define_within (regions_of c.self.inside.defined.items c.self.inside.lists.lists) c.args.id c.args.pages (omega arith) (omega (arith, count, len, c.total.ensures.total, ap length c.list.ensures)))
-    ∙ ap (λ r. first_standing (define_tests r.regions c.args.id c.args.pages)) c.self.view_is
+pub replace-requires-clause-room : goal.replace-requires-clause-room
+replace-requires-clause-room c =
+    let slots = c.self.inside in
+    let now = c.args.self.now.regions in
+    let view = ap (λ r. r.regions) c.self.view_is in
+    let allowed = sym (c.in_ok-may_define.ensures {u = tt}) in
+    let room = define_room slots.defined.items slots.lists.lists now c.args.id c.args.pages c.self.invariant.2 view allowed in
+    omega (arith, room, c.self.invariant.3)
+
+pub invariant_of-self : goal.invariant_of-self
+invariant_of-self c =
+    let defined = c.self.inside.defined.items in
+    let lists = c.self.inside.lists.lists in
+    let now = c.args.self.now.regions in
+    let view = ap (λ r. r.regions) c.self.view_is in
+    let allowed = sym (c.in_ok-may_define.ensures {u = tt}) in
+    let small = define_id now c.args.id c.args.pages allowed in
+    let room = define_room defined lists now c.args.id c.args.pages c.self.invariant.2 view allowed in
+    let flags = slice_set defined c.args.id (not (c.args.pages == 0)) in (
+      c.self.invariant.0,
+      c.self.invariant.1,
+      subst (λ ls. AreSlots flags ls) (sym c.replace.ensures.lists)
+          (slots_defined defined lists c.args.id c.args.pages small room c.self.invariant.2),
+      c.replace.ensures.room ∙ c.self.invariant.3,
+      c.self.invariant.4,
+    )
 
 pub returns-clause-ok : goal.returns-clause-ok
 returns-clause-ok c =
+    let defined = c.self.inside.defined.items in
+    let lists = c.self.inside.lists.lists in
+    let slots = c.self.invariant.2 in
     let flag = not (c.args.pages == 0) in
     let chain = option_map (chain_of c.self.inside.runs.items) c.self.inside.chain in
-    let same = ap (regions_of (slice_set c.self.inside.defined.items c.args.id flag)) c.replace.ensures.lists
-    ∙ regions_of-define c.self.inside.defined.items c.self.inside.lists.lists c.args.id c.args.pages flag (omega arith) c.self.invariant.2.flags c.self.invariant.2.lists_count (twice (c.args.pages == 0)) in
+    let allowed = sym (c.in_ok-may_define.ensures {u = tt}) in
+    let small = define_id c.args.self.now.regions c.args.id c.args.pages allowed in
+    let same = ap (regions_of (slice_set defined c.args.id flag)) c.replace.ensures.lists
+    ∙ regions_of-define defined lists c.args.id c.args.pages flag small slots.flags slots.lists_count (twice (c.args.pages == 0)) in
     (λ i. record { guest = c.self.inside.guest; frame = c.self.inside.frame; regions = same i; chain = chain })
     ∙ ap (λ r. record { guest = r.guest; frame = r.frame; regions = with_region r.regions c.args.id c.args.pages; chain = r.chain }) c.self.view_is
-
-pub returns-then-rest-pages-gt65536-clause-deletion : goal.returns-then-rest-pages-gt65536-clause-deletion
-returns-then-rest-pages-gt65536-clause-deletion c = λ none. absurd (omega (arith, c.self.invariant.2.total, c.total.ensures.total))
