@@ -11,6 +11,7 @@ mod screens;
 
 pub use area::Area;
 pub use clipping::clip;
+pub use picture::has_sides;
 pub use screens::Screens;
 
 #[cfg(test)]

@@ -6,7 +6,7 @@ ghost use Rattle.svga_screen.specs.Kept.{screen_from};
 
 use svga_cmd::ScreenDef;
 
-/// Whether both sides are in range.
+/// Whether both sides are 1 to 8,192 pixels.
 pub fn has_sides(def: &ScreenDef) -> bool
     ensures { result ≡ are_sides def.now }
 {
