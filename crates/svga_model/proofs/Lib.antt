@@ -20,6 +20,7 @@ pub mod PaintedTests
 pub mod PixelsNone
 pub mod PutLaws
 pub mod RunLaws
+pub mod ShapeLaws
 pub mod StandingLaws
 pub mod TabulatedLaws
 pub mod TouchLaws

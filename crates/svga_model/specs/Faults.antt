@@ -1,5 +1,5 @@
 -- The rules by which an act is refused, and the fault that it has.
-use Rattle.std.specs.Prelude.{◌≡◌, ℕ, List, [], ◌∷◌, ◌++◌, Bool, nat_lt, ◌==◌, ◌&&◌, not, is_none, Option, Some, None}
+use Rattle.std.specs.Prelude.{◌≡◌, ℕ, List, [], ◌∷◌, ◌++◌, Bool, nat_lt, ◌==◌, ◌&&◌, not, is_none, Option, Some, None, IsSome}
 use Rattle.svga_cmd.specs.Limits.{frame_page_count}
 use Rattle.svga_cmd.specs.declared.command.Command.{Command}
 use Rattle.svga_cmd.specs.declared.command.Command.TheVariants.{Update, Fence, DefineScreen, DestroyScreen, DefineGmrfb, BlitToScreen, BlitToGmrfb, DefineGmr2, RemapGmr2}
@@ -46,6 +46,11 @@ tests_by s numbers (RemapGmr2 region offset pages entries) =
 abbrev pub numbers_named : Command → List ℕ
 numbers_named (RemapGmr2 region offset pages entries) = named_pages entries pages
 numbers_named c = []
+
+-- the command is a remap by VIA_GMR
+abbrev pub ReadsNumbers : Command → Type 0
+ReadsNumbers (RemapGmr2 region offset pages entries) = IsSome (pointed entries)
+ReadsNumbers c = ⊥
 
 -- The rules that are judged without bytes: all but BadPage of a remap by VIA_GMR.
 abbrev pub shape_tests : Shape → Command → List (Bool × Fault)

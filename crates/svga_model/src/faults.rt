@@ -1,18 +1,20 @@
-//! Which of several faults is told. The function does nothing: its contract is the law.
-ghost use Rattle.std.specs.Prelude.{◌≡◌, ◌↔◌, ◌≤◌, ℕ, List, Bool, Option, Some, IfSome};
+//! Which of several faults is told, and what of it without bytes. The functions do nothing: their contracts are the laws.
+ghost use Rattle.std.specs.Prelude.{◌≡◌, ◌↔◌, ◌≤◌, ◌⊎◌, ℕ, List, Bool, Option, None, Some, IfSome};
 ghost use Rattle.svga_cmd.specs.Fault.{number_of};
 ghost use Rattle.svga_cmd.specs.declared.blit.Blit.{Blit};
+ghost use Rattle.svga_cmd.specs.declared.command.Command.{Command};
 ghost use Rattle.svga_cmd.specs.declared.fault.Fault.{Fault};
+ghost use Rattle.svga_cmd.specs.declared.fault.Fault.TheVariants as fault;
 ghost use Rattle.svga_cmd.specs.declared.screen.ScreenDef.{ScreenDef};
-ghost use Rattle.svga_model.specs.Acts.{Act};
+ghost use Rattle.svga_model.specs.Acts.{Act, Do};
 ghost use Rattle.svga_model.specs.BlitFaults.{blit_tests};
-ghost use Rattle.svga_model.specs.Faults.{HasFault, IsAdmissible, fault_of};
+ghost use Rattle.svga_model.specs.Faults.{HasFault, IsAdmissible, ReadsNumbers, fault_of, shape_tests};
 ghost use Rattle.svga_model.specs.PointedNumbers.{Pointed, pointer_tests};
 ghost use Rattle.svga_model.specs.RegionBytes.{byte_tests};
 ghost use Rattle.svga_model.specs.Regions.{Regions, define_tests, remap_tests};
 ghost use Rattle.svga_model.specs.Screens.{define_screen_tests, destroy_screen_tests};
 ghost use Rattle.svga_model.specs.Standing.{AreAtLeast, AreOrdered, first_standing, least_standing};
-ghost use Rattle.svga_model.specs.States.{Shape, State};
+ghost use Rattle.svga_model.specs.States.{Shape, State, shape_of};
 ghost use Rattle.svga_model.specs.Walks.{Descriptor, TablePlace, Tables, chain_tests, last_tests, start_tests};
 
 /// The fault that an act is refused with is the least of those that it has, and there is one where it has any.
@@ -35,4 +37,14 @@ pub fn least_fault()
     ensures blit { (s : Shape) (b : Blit) → AreOrdered 0 (blit_tests s b) }
     ensures define_screen { (definitions : ℕ → Option ScreenDef) (budget : ℕ) (d : ScreenDef) → AreOrdered 0 (define_screen_tests budget definitions d) }
     ensures destroy_screen { (definitions : ℕ → Option ScreenDef) (id : ℕ) → AreOrdered 0 (destroy_screen_tests definitions id) }
+{}
+
+/// What can be told of a command's fault without bytes: all of it, but for the page numbers that a remap by VIA_GMR reads.
+pub fn judged_without_bytes()
+    // A fault that is told so is the command's.
+    ensures refused { (s : State) (c : Command) (f : Fault) → least_standing (shape_tests (shape_of s.kept) c) ≡ Some f → fault_of s (Do c) ≡ Some f }
+
+    // Where none is told there is none, or one of the numbers is no guest page's.
+    ensures admitted { (s : State) (c : Command) → least_standing (shape_tests (shape_of s.kept) c) ≡ None → IsAdmissible s (Do c) ⊎ (fault_of s (Do c) ≡ Some fault.BadPage) }
+    ensures whole { (s : State) (c : Command) → ¬ (ReadsNumbers c) → fault_of s (Do c) ≡ least_standing (shape_tests (shape_of s.kept) c) }
 {}

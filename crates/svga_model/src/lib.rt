@@ -18,7 +18,7 @@ pub use examples::{
     blit_at_a_corner, empty_region, overlapping_screens, pixel_over_two_places,
     remap_of_its_own_numbers, update_past_the_edge,
 };
-pub use faults::{fault_of_act, least_fault};
+pub use faults::{fault_of_act, judged_without_bytes, least_fault};
 pub use fences::fence_order;
 pub use grammar::{one_ending, refused_word, viable_words};
 pub use pixels::{
