@@ -1,0 +1,11 @@
+pub mod ApplyLaws
+pub mod BlitLaws
+pub mod ChainLaws
+pub mod DefinitionLaws
+pub mod JudgeBlits
+pub mod JudgeReading
+pub mod JudgeRemaps
+pub mod LesserLaws
+pub mod RowLaws
+pub mod SpanLaws
+pub mod SpanMembers

@@ -1,0 +1,4 @@
+pub mod Admission
+pub mod Definitions
+pub mod ShapeSet
+pub mod Spans
