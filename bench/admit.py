@@ -11,7 +11,7 @@ import time
 
 PROGRAM = pathlib.Path(__file__).parent.parent / "crates/bench_admit/out/bench_admit"
 TURNS = 5
-ADMISSIONS = 200
+ADMISSIONS = 5000
 ROWS = 4096
 
 

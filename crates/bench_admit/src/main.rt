@@ -10,7 +10,7 @@ use svga_cmd::{Blit, CommandRef, EntriesRef, Format, Gmrfb, Limits, Point, Rect,
 use svga_shape::Shape;
 
 /// How often the blit is admitted.
-const TURNS: u32 = 200;
+const TURNS: u32 = 5000;
 
 fn main(rt: HostRuntime) -> Result<(), io::Error> {
     let mut arguments = env::args(&rt)?;
@@ -88,10 +88,10 @@ fn admitted(shape: &Shape, width: i32) -> u32 {
         },
         screen: 0,
     });
-    let mut count = 0;
+    let mut count = 0u32;
     for _ in 0..TURNS {
         if shape.admit(&blit).is_ok() {
-            count += 1;
+            count = count.wrapping_add(1);
         }
     }
     count
