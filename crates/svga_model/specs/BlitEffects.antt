@@ -40,8 +40,12 @@ repainted colour s = record s {
   rows = map_list (λ y. map_list (λ x. unwrap_or (colour x y) (slice_index (row_at s y) x)) (range_with_len 0 s.def.width)) (range_with_len 0 s.def.height);
 }
 
+-- for each pixel of each screen its new colour, if it gets one
+abbrev pub NewColours : Type 0
+NewColours = ℕ → ScreenDef → ℕ → ℕ → Option ℕ
+
 -- each screen with its new colours; ids end at 15
-unfoldable pub repainted_screens : (ℕ → ScreenDef → ℕ → ℕ → Option ℕ) → Screens → Screens
+unfoldable pub repainted_screens : NewColours → Screens → Screens
 repainted_screens colour screens = tabulated 16 (λ id. option_map (λ s. repainted (colour id s.def) s) (map.get screens id))
 
 -- the colour of pixel (x, y) of a screen, 0 where there is none

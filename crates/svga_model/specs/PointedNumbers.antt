@@ -1,5 +1,5 @@
 -- Page numbers that a remap by VIA_GMR reads from a region.
-use Rattle.std.specs.Prelude.{ℕ, zero, suc, ◌+◌, ◌*◌, List, [], map as map_list, Bool, not, ◌&&◌, if◌then◌else◌, Option, Some, None, unwrap_or}
+use Rattle.std.specs.Prelude.{ℕ, zero, suc, ◌+◌, ◌*◌, List, [], map as map_list, Bool, not, ◌&&◌, if◌then◌else◌, Option, Some, None}
 use Rattle.std.specs.List.{range_with_len, list_any}
 use Rattle.svga_cmd.specs.Pages.{Memory}
 use Rattle.svga_cmd.specs.declared.fault.Fault.{Fault}
@@ -8,7 +8,7 @@ use Rattle.svga_cmd.specs.declared.remap.RemapData.{RemapData}
 use Rattle.svga_cmd.specs.declared.remap.RemapData.TheVariants.{Ppn32, Ppn64, SinglePpn32, SinglePpn64, ViaGmr32, ViaGmr64}
 use Rattle.svga_model.specs.Memories.{region_byte}
 use Rattle.svga_model.specs.RegionBytes.{is_beyond, is_unmapped, region_tests}
-use Rattle.svga_model.specs.Regions.{Places, Regions, joined_words, places_of}
+use Rattle.svga_model.specs.Regions.{Places, Regions, joined_words, places_of, region_places}
 use Rattle.svga_model.specs.Walks.{word_at}
 
 -- where the numbers stand, and how many words each has
@@ -56,7 +56,7 @@ numbers_in bytes at pages = map_list (λ k. number_at bytes at.words (at.offset 
 
 -- the same in a memory
 abbrev pub numbers_at : ℕ → Regions → Memory → Pointed → ℕ → List ℕ
-numbers_at frame regions m at pages = numbers_in (region_byte m (unwrap_or (places_of frame regions at.region) [])) at pages
+numbers_at frame regions m at pages = numbers_in (region_byte m (region_places frame regions at.region)) at pages
 
 -- those that are judged: none where the region isn't defined or a needed byte lies on no mapped place
 abbrev pub judged_in : Memory → Option Places → Pointed → ℕ → List ℕ

@@ -35,6 +35,10 @@ defined_places regions id = if nat_lt 4095 id then None else map.get regions id
 abbrev pub places_of : ℕ → Regions → ℕ → Option Places
 places_of frame regions id = if id == frame_region then Some (frame_places frame) else defined_places regions id
 
+-- the same, empty where there is no such region
+abbrev pub region_places : ℕ → Regions → ℕ → Places
+region_places frame regions id = unwrap_or (places_of frame regions id) []
+
 -- how many places a region has, 0 where it isn't defined
 abbrev pub region_length : Regions → ℕ → ℕ
 region_length regions id = length (unwrap_or (defined_places regions id) [])

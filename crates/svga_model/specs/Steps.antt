@@ -1,38 +1,44 @@
 -- What an admissible act leaves. What isn't named stays.
-use Rattle.std.specs.Prelude.{ℕ, List, [], ◌==◌, if◌then◌else◌, Option, Some, None, unwrap_or}
+use Rattle.std.specs.Prelude.{ℕ, List, ◌==◌, if◌then◌else◌, Option, Some, None}
 use Rattle.svga_cmd.specs.declared.blit.Blit.{Blit}
 use Rattle.svga_cmd.specs.declared.command.Command.{Command}
 use Rattle.svga_cmd.specs.declared.command.Command.TheVariants.{Update, Fence, DefineScreen, DestroyScreen, DefineGmrfb, BlitToScreen, BlitToGmrfb, DefineGmr2, RemapGmr2}
 use Rattle.svga_cmd.specs.declared.gmrfb.Gmrfb.{Gmrfb}
 use Rattle.svga_cmd.specs.declared.remap.RemapData.{RemapData}
 use Rattle.svga_model.specs.Acts.{Act, Do, Put, Chain}
-use Rattle.svga_model.specs.BlitEffects.{blit_colour, blit_writes, repainted_screens, update_colour}
+use Rattle.svga_model.specs.BlitEffects.{NewColours, blit_colour, blit_writes, repainted_screens, update_colour}
 use Rattle.svga_model.specs.Faults.{no_region}
 use Rattle.svga_model.specs.Memories.{region_byte, with_page, written}
 use Rattle.svga_model.specs.PointedNumbers.{Pointed, numbers_at, pointed}
-use Rattle.svga_model.specs.Regions.{Places, frame_places, places_of, range_pages, with_region, with_remap}
+use Rattle.svga_model.specs.Regions.{Places, frame_places, range_pages, region_places, with_region, with_remap}
 use Rattle.svga_model.specs.Screens.{with_screen, without_screen}
 use Rattle.svga_model.specs.States.{State, frame_pages, with_regions, with_screens}
 use Rattle.svga_model.specs.Walks.{tables_of, with_chain}
 
 -- the places of the GMRFB's region, none where it isn't defined
 abbrev pub places_for : State → Gmrfb → Places
-places_for s g = unwrap_or (places_of (frame_pages s.kept) s.kept.regions g.region) []
+places_for s g = region_places (frame_pages s.kept) s.kept.regions g.region
 
--- UPDATE: the screens show what the guest framebuffer has in this part of virtual coordinates
+-- the colours that the guest framebuffer has in this part of virtual coordinates
+abbrev pub updated_colours : State → ℕ → ℕ → ℕ → ℕ → NewColours
+updated_colours s x y width height = λ id. update_colour (region_byte s.memory (frame_places (frame_pages s.kept))) s.kept.limits x y width height
+
+-- UPDATE: the screens show them
 abbrev pub updated : State → ℕ → ℕ → ℕ → ℕ → State
-updated s x y width height =
-    let bytes = region_byte s.memory (frame_places (frame_pages s.kept)) in
-    with_screens s (repainted_screens (λ id. update_colour bytes s.kept.limits x y width height) s.kept.screens)
+updated s x y width height = with_screens s (repainted_screens (updated_colours s x y width height) s.kept.screens)
 
 -- the GMRFB, or none where its region's id stands for none
 abbrev pub new_gmrfb : Gmrfb → Option Gmrfb
 new_gmrfb g = if g.region == no_region then None else Some g
 
--- BLIT_GMRFB_TO_SCREEN: the screens show what the GMRFB has
+-- the colours that the GMRFB has for the pixels of a blit
+abbrev pub shown_colours : State → Gmrfb → Blit → NewColours
+shown_colours s g b = blit_colour (region_byte s.memory (places_for s g)) g b
+
+-- BLIT_GMRFB_TO_SCREEN: the screens show them
 abbrev pub shown : State → Option Gmrfb → Blit → State
 shown s None b = s
-shown s (Some g) b = with_screens s (repainted_screens (blit_colour (region_byte s.memory (places_for s g)) g b) s.kept.screens)
+shown s (Some g) b = with_screens s (repainted_screens (shown_colours s g b) s.kept.screens)
 
 -- BLIT_SCREEN_TO_GMRFB: the GMRFB has what the screens show
 abbrev pub read_back : State → Option Gmrfb → Blit → State

@@ -10,9 +10,11 @@ mod layout;
 mod pixel;
 mod row;
 mod sixteen;
+mod start;
 
 pub use pixel::{narrow, pixel_length, widen};
 pub use row::{read_row, write_row};
+pub use start::pixel_start;
 
 #[cfg(test)]
 mod tests;

@@ -1,7 +1,7 @@
 //! Areas of screens.
 
 /// A part of a screen, counted from the screen's left top corner.
-#[derive(Clone, Copy, Debug, PartialEq, Eq)]
+#[derive(Clone, Copy, Debug, Default, PartialEq, Eq)]
 pub struct Area {
     pub screen: u32,
     pub left: u32,

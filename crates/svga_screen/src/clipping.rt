@@ -1,5 +1,5 @@
 //! Clipping a rectangle to an area.
-ghost use Rattle.std.specs.Prelude.{◌≡◌, ℕ, ◌+◌, ◌<◌, ◌≤◌, ◌&&◌, pos, ◌+ℤ◌, ◌-ℤ◌, int_le, int_lt, nat_le, nat_lt};
+ghost use Rattle.std.specs.Prelude.{◌≡◌, ℕ, ◌+◌, ◌<◌, ◌≤◌, ◌^◌, ◌&&◌, pos, ◌+ℤ◌, ◌-ℤ◌, int_le, int_lt, nat_le, nat_lt, unsigned_abs};
 ghost use Rattle.svga_screen.specs.Clips.{IsClip};
 
 use crate::area::Area;
@@ -36,6 +36,15 @@ const NOTHING: Area = Area {
     width: 0,
     height: 0,
 };
+
+/// The place so many steps behind a corner.
+pub fn place(corner: i32, steps: u32) -> i64
+    requires { steps ≤ 8192 }
+    ensures value { result ≡ corner +ℤ pos steps }
+    ensures near { unsigned_abs result ≤ 2 ^ 32 }
+{
+    i64::from(corner) + i64::from(steps)
+}
 
 /// The part of the places from `low` to below `high` among the `length` places that begin at `start`: the first
 /// of them, counted from there, and how many there are.

@@ -10,7 +10,7 @@ mod picture;
 mod screens;
 
 pub use area::Area;
-pub use clipping::clip;
+pub use clipping::{clip, place};
 pub use picture::has_sides;
 pub use screens::Screens;
 

@@ -10,10 +10,10 @@ use Rattle.svga_cmd.specs.declared.fault.Fault.TheVariants.{NoRegion, RegionId, 
 use Rattle.svga_model.specs.BlitFaults.{is_on_unmapped, is_outside}
 use Rattle.svga_model.specs.PointedNumbers.{Pointed, needs_beyond, needs_unmapped, pointer_tests}
 use Rattle.svga_model.specs.RegionBytes.{holds_of, is_beyond, is_unmapped, region_tests}
-use Rattle.svga_model.specs.Regions.{Places, Regions, frame_places, frame_region, places_of}
+use Rattle.svga_model.specs.Regions.{Places, Regions, frame_places, frame_region, places_of, region_places}
 use Rattle.svga_model.specs.Standing.{first_standing}
 use Rattle.svga_shape.proofs.SpanMembers.{byte_passes, number_passes, same_tests, some_byte_of, some_number}
-use Rattle.svga_shape.specs.Spans.{breaks, region_places, some_in_span}
+use Rattle.svga_shape.specs.Spans.{breaks, some_in_span}
 use Rattle.svga_shape.specs.declared.span.ByteRule.{ByteRule}
 use Rattle.svga_shape.specs.declared.span.ByteRule.TheVariants as rule
 

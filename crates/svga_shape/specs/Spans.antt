@@ -1,5 +1,5 @@
 -- Rules on the bytes of a region, and where a span of bytes or a screen's part of a blit breaks one.
-use Rattle.std.specs.Prelude.{ℕ, ℤ, pos, ◌+ℤ◌, [], Bool, false, ◌&&◌, Option, Some, None, unwrap_or}
+use Rattle.std.specs.Prelude.{ℕ, ℤ, pos, ◌+ℤ◌, Bool, false, ◌&&◌, Option, Some, None}
 use Rattle.std.specs.List.{list_any, range_with_len}
 use Rattle.svga_cmd.specs.declared.blit.Blit.{Blit}
 use Rattle.svga_cmd.specs.declared.gmrfb.Gmrfb.{Gmrfb}
@@ -7,7 +7,7 @@ use Rattle.svga_cmd.specs.declared.screen.ScreenDef.{ScreenDef}
 use Rattle.svga_model.specs.BlitFaults.{is_on_unmapped, is_outside}
 use Rattle.svga_model.specs.BlitPixels.{blit_offset, corner_x, corner_y, is_in_rect, is_meant}
 use Rattle.svga_model.specs.Colours.{pixel_length}
-use Rattle.svga_model.specs.Regions.{Places, Regions, places_of}
+use Rattle.svga_model.specs.Regions.{Places}
 use Rattle.svga_shape.specs.declared.span.ByteRule.{ByteRule}
 use Rattle.svga_shape.specs.declared.span.ByteRule.TheVariants.{Unmapped, Beyond}
 
@@ -38,7 +38,3 @@ abbrev pub screen_passes : (ℤ → Bool) → Gmrfb → Blit → ℕ → Option 
 screen_passes test g b id None = false
 screen_passes test g b id (Some d) =
     is_meant b.screen id && area_passes test g b (corner_x b.screen d) (corner_y b.screen d) d.width d.height
-
--- the places of a region that is there
-abbrev pub region_places : ℕ → Regions → ℕ → Places
-region_places frame regions id = unwrap_or (places_of frame regions id) []

@@ -5,16 +5,16 @@ ghost use Rattle.std.specs.List.{list_any, range_with_len};
 ghost use Rattle.svga_model.specs.BlitFaults.{some_byte};
 ghost use Rattle.svga_model.specs.BlitPixels.{blit_offset};
 ghost use Rattle.svga_model.specs.Colours.{pixel_length as bytes_per_pixel};
-ghost use Rattle.svga_model.specs.Regions.{places_of};
+ghost use Rattle.svga_model.specs.Regions.{places_of, region_places};
 ghost use Rattle.svga_model.specs.Screens.{IsDefinition};
-ghost use Rattle.svga_shape.specs.Spans.{area_passes, breaks, region_places, screen_passes, some_in_span};
+ghost use Rattle.svga_shape.specs.Spans.{area_passes, breaks, screen_passes, some_in_span};
 
 use crate::definitions::Definitions;
 use crate::span::{ByteRule, span_breaks};
 use svga_cmd::{Blit, Gmrfb, ScreenDef};
-use svga_pixel::pixel_length;
+use svga_pixel::{pixel_length, pixel_start};
 use svga_region::Regions;
-use svga_screen::{Area, clip};
+use svga_screen::{Area, clip, place};
 
 /// In place of a screen's id: virtual coordinates, and all screens.
 const SVGA_ID_INVALID: u32 = 0xFFFF_FFFF;
@@ -114,55 +114,4 @@ fn rows_break(
         let from = pixel_start(gmrfb, blit, left, place(y, row));
         span_breaks(regions, gmrfb.region, rule, from, count)
     })
-}
-
-/// The place so many steps behind a corner.
-fn place(corner: i32, steps: u32) -> i64
-    requires { steps ≤ 8192 }
-    ensures value { result ≡ corner +ℤ pos steps }
-    ensures near { unsigned_abs result ≤ 2 ^ 32 }
-{
-    i64::from(corner) + i64::from(steps)
-}
-
-/// Where the bytes of the pixel for a place begin in the GMRFB's region. 64 bits may not hold it.
-fn pixel_start(gmrfb: &Gmrfb, blit: &Blit, x: i64, y: i64) -> i128
-    requires x { unsigned_abs x ≤ 2 ^ 32 }
-    requires y { unsigned_abs y ≤ 2 ^ 32 }
-    ensures value { result ≡ blit_offset gmrfb.now blit.now x y }
-    ensures near { unsigned_abs result ≤ 2 ^ 80 }
-{
-    let row = along(blit.point.y, y, blit.rect.top);
-    let column = along(blit.point.x, x, blit.rect.left);
-    sum(
-        gmrfb.offset,
-        product(row, gmrfb.pitch),
-        product(column, pixel_length(gmrfb.format) as u32),
-    )
-}
-
-/// The place that is as far from `point` as this one is from an edge of the rectangle.
-fn along(point: i32, place: i64, edge: i32) -> i64
-    requires { unsigned_abs place ≤ 2 ^ 32 }
-    ensures value { result ≡ point +ℤ (place -ℤ edge) }
-    ensures near { unsigned_abs result ≤ 2 ^ 34 }
-{
-    i64::from(point) + (place - i64::from(edge))
-}
-
-fn product(a: i64, b: u32) -> i128
-    requires { unsigned_abs a ≤ 2 ^ 34 }
-    ensures value { result ≡ a *ℤ pos b }
-    ensures near { unsigned_abs result ≤ 2 ^ 66 }
-{
-    i128::from(a) * i128::from(b)
-}
-
-fn sum(a: u32, b: i128, c: i128) -> i128
-    requires b { unsigned_abs b ≤ 2 ^ 66 }
-    requires c { unsigned_abs c ≤ 2 ^ 66 }
-    ensures value { result ≡ pos a +ℤ b +ℤ c }
-    ensures near { unsigned_abs result ≤ 2 ^ 80 }
-{
-    i128::from(a) + b + c
 }

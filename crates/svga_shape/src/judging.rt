@@ -10,11 +10,11 @@ ghost use Rattle.svga_model.specs.BlitFaults.{blit_tests, is_negative as has_neg
 ghost use Rattle.svga_model.specs.BlitPixels.{all_screens};
 ghost use Rattle.svga_model.specs.Faults.{gmrfb_tests, pointed_tests};
 ghost use Rattle.svga_model.specs.PointedNumbers.{pointed, pointed_by, pointer_tests};
-ghost use Rattle.svga_model.specs.Regions.{named_pages, places_of, remap_tests};
+ghost use Rattle.svga_model.specs.Regions.{named_pages, places_of, region_places, remap_tests};
 ghost use Rattle.svga_model.specs.Standing.{first_standing, least_standing};
 ghost use Rattle.svga_model.specs.States.{Shape};
 ghost use Rattle.svga_shape.specs.Admission.{region_of};
-ghost use Rattle.svga_shape.specs.Spans.{breaks, region_places, some_in_span};
+ghost use Rattle.svga_shape.specs.Spans.{breaks, some_in_span};
 
 use crate::blits::blit_breaks;
 use crate::definitions::Definitions;

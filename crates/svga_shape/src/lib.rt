@@ -12,7 +12,7 @@ mod shape;
 mod span;
 mod touch;
 
-pub use shape::Shape;
+pub use shape::{Shape, named_gmrfb};
 pub use touch::Touch;
 
 #[cfg(test)]

@@ -17,6 +17,7 @@ ghost use Rattle.svga_region.specs.Chains.{Answers, begun_chain};
 ghost use Rattle.svga_region.specs.Conditions.{IsBegun, IsWhole};
 ghost use Rattle.svga_region.specs.RegionSet.{Chain};
 ghost use Rattle.svga_shape.specs.Admission.{region_of};
+ghost use Rattle.svga_shape.specs.Definitions.{AreScreenDefinitions};
 ghost use Rattle.svga_shape.specs.ShapeSet.{AreOfLimits, opening_shape, shape_in};
 
 use crate::definitions::Definitions;
@@ -140,7 +141,7 @@ impl Shape {
         match *command {
             CommandRef::DefineScreen(def) => self.screens.define(&def),
             CommandRef::DestroyScreen { id } => self.screens.destroy(id),
-            CommandRef::DefineGmrfb(gmrfb) => self.gmrfb = named(gmrfb),
+            CommandRef::DefineGmrfb(gmrfb) => self.gmrfb = named_gmrfb(gmrfb),
             CommandRef::DefineGmr2 { region, pages } => {
                 let _ = self.regions.define(region, pages);
             }
@@ -168,8 +169,9 @@ impl Shape {
     pub fn regions(&self) -> &Regions
         ensures regions { result.now ≡ self.now.regions }
 
-        // Whoever asks for them learns that they have the pages of the limits.
+        // Whoever asks for them learns that they have the pages of the limits, and what holds of the definitions beside them.
         ensures valid { AreOfLimits self.now }
+        ensures definitions { AreScreenDefinitions self.now.screens }
     {
         &self.regions
     }
@@ -214,8 +216,8 @@ fn touch_of(gmrfb: Option<Gmrfb>) -> Touch
     }
 }
 
-/// The GMRFB that a command names, or none.
-fn named(gmrfb: Gmrfb) -> Option<Gmrfb>
+/// The GMRFB that DEFINE_GMRFB names, or none where its region's id stands for none.
+pub fn named_gmrfb(gmrfb: Gmrfb) -> Option<Gmrfb>
     ensures { result ≡ new_gmrfb gmrfb }
 {
     if gmrfb.region == GMR_NULL {

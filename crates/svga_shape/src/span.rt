@@ -3,8 +3,8 @@ ghost use Rattle.std.specs.Prelude.{◌≡◌, ℕ, ◌-◌, ◌*◌, ◌<◌, �
 ghost use Rattle.std.specs.List.{list_any, range_with_len};
 ghost use Rattle.svga_model.specs.BlitFaults.{is_on_unmapped, is_outside};
 ghost use Rattle.svga_model.specs.RegionBytes.{page_of_byte};
-ghost use Rattle.svga_model.specs.Regions.{Places, places_of};
-ghost use Rattle.svga_shape.specs.Spans.{breaks, region_places, some_in_span};
+ghost use Rattle.svga_model.specs.Regions.{Places, places_of, region_places};
+ghost use Rattle.svga_shape.specs.Spans.{breaks, some_in_span};
 
 use svga_region::Regions;
 

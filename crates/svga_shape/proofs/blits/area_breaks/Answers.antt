@@ -4,9 +4,10 @@ use Rattle.std.proofs.lemmas.Int.{ints, to_z-of_z}
 use Rattle.std.specs.List.{list_any, range_with_len}
 use Rattle.svga_model.specs.BlitPixels.{blit_offset}
 use Rattle.svga_model.specs.Colours.{pixel_length}
+use Rattle.svga_model.specs.Regions.{region_places}
 use Rattle.svga_screen.specs.Clips.{IsClip}
 use Rattle.svga_shape.proofs.RowLaws.{area_rows}
-use Rattle.svga_shape.specs.Spans.{breaks, region_places, some_in_span}
+use Rattle.svga_shape.specs.Spans.{breaks, some_in_span}
 use Rattle.svga_shape.proofs.blits.area_breaks.Goals as goal
 
 pub returns : goal.returns

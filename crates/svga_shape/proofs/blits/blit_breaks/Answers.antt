@@ -1,8 +1,9 @@
 -- A byte of a blit's pixels breaks a rule where one of the blit's part on some screen does.
 use Rattle.std.proofs.Common.{◌∙◌}
 use Rattle.std.specs.FinMap as map
+use Rattle.svga_model.specs.Regions.{region_places}
 use Rattle.svga_shape.proofs.BlitLaws.{blit_screens}
-use Rattle.svga_shape.specs.Spans.{breaks, region_places}
+use Rattle.svga_shape.specs.Spans.{breaks}
 use Rattle.svga_shape.proofs.blits.blit_breaks.Goals as goal
 
 pub returns : goal.returns

@@ -2,8 +2,8 @@
 use Rattle.std.proofs.Common.{◌≡◌, ◌∙◌, ap, sym, pos, ◌+ℤ◌, int_le, to_z, of_z, arith}
 use Rattle.std.proofs.lemmas.Int.{ints}
 use Rattle.std.specs.Int.{w128}
+use Rattle.svga_model.specs.Regions.{region_places}
 use Rattle.svga_shape.proofs.SpanLaws.{between}
-use Rattle.svga_shape.specs.Spans.{region_places}
 use Rattle.svga_shape.proofs.span.lies_on_unmapped.Goals as goal
 
 pub returns : goal.returns

@@ -1,7 +1,7 @@
 -- The places that bytes lie on are all from the first's up to the last's.
 use Rattle.std.proofs.Common.{◌∙◌, arith}
+use Rattle.svga_model.specs.Regions.{region_places}
 use Rattle.svga_shape.proofs.SpanLaws.{touched}
-use Rattle.svga_shape.specs.Spans.{region_places}
 use Rattle.svga_shape.proofs.span.touches_unmapped.Goals as goal
 
 pub returns : goal.returns
