@@ -1,0 +1,80 @@
+-- The colours of pixels whose bytes were read.
+use Rattle.std.proofs.Common.{◌≡◌, ℕ, ◌+◌, ◌*◌, ◌<◌, ◌≤◌, refl, sym, ap, ◌∙◌, List, [], length, map as map_list, slice_index, take, ◌++◌, Option, Some, None, unwrap_or, arith}
+use Rattle.std.specs.Prelude.{option_map}
+use Rattle.std.proofs.Math.Nat.{mul-le-mul_left}
+use Rattle.std.proofs.lemmas.Grind.{same_number_lists}
+use Rattle.std.proofs.lemmas.List.{take_at}
+use Rattle.std.proofs.lemmas.List.Edits.{get_or-between, length-between}
+use Rattle.std.proofs.lemmas.List.FromFn.{get_or-map-range_with_len, length-map-range_with_len}
+use Rattle.std.specs.List.{range_with_len}
+use Rattle.svga_cmd.specs.declared.format.Format.{Format}
+use Rattle.svga_model.specs.BlitEffects.{colour_at}
+use Rattle.svga_model.specs.Colours.{colour_of, pixel_at, pixel_length, row_colours}
+use Rattle.svga_model.specs.Regions.{Places}
+use Rattle.svga_transfer.proofs.ListLaws.{same_map}
+use Rattle.svga_transfer.specs.Painting.{colours_from}
+
+-- a region's places are counted alike whether or not it is there
+pub places_length : (o : Option Places) → unwrap_or (option_map length o) 0 ≡ length (unwrap_or o [])
+places_length None = refl
+places_length (Some places) = refl
+
+-- the bytes of one of so many pixels end within those of all
+pub ends_within : (k count n : ℕ) → k < count → k * n + n ≤ count * n
+ends_within k count n l = grind (arith, mul-le-mul_left)
+
+module _ (format : Format) (bytes : ℕ → ℕ) (from count : ℕ) where
+  abbrev pub read : List ℕ
+  read = map_list bytes (range_with_len from (count * pixel_length format))
+
+  -- the bytes of pixel k
+  pixel_read : (k : ℕ) → k < count
+      → pixel_at format read k ≡ map_list bytes (range_with_len (from + k * pixel_length format) (pixel_length format))
+  pixel_read k l = same_number_lists (pixel_at format read k)
+      (map_list bytes (range_with_len (from + k * n) n))
+      (sized ∙ sym (length-map-range_with_len bytes (from + k * n) n))
+      (λ j below. at j (omega (arith, sized)))
+    where
+      n : ℕ
+      n = pixel_length format
+
+      fits : k * n + n ≤ length read
+      fits = omega (arith, ends_within k count n l, length-map-range_with_len bytes from (count * n))
+
+      sized : length (pixel_at format read k) ≡ n
+      sized = length-between read (k * n) (k * n + n) fits ∙ omega arith
+
+      at : (j : ℕ) → j < n → slice_index (pixel_at format read k) j
+          ≡ slice_index (map_list bytes (range_with_len (from + k * n) n)) j
+      at j below =
+          get_or-between read (k * n) (k * n + n) j 0 (omega arith)
+          ∙ get_or-map-range_with_len bytes from (count * n) (k * n + j) (from + k * n + j) 0
+          (omega (arith, ends_within k count n l)) (omega arith)
+          ∙ sym (get_or-map-range_with_len bytes (from + k * n) n j (from + k * n + j) 0 below refl)
+
+  -- the colours of a row of these bytes
+  pub colours_read : row_colours format count read ≡ colours_from bytes format from count
+  colours_read = same_map (λ k. colour_of format (pixel_at format read k))
+      (λ k. colour_at bytes format (from + k * pixel_length format)) 0 count
+      (λ k low high. ap (colour_of format) (pixel_read k (omega arith)))
+
+-- The same where both lists stand in the front of longer ones.
+pub colours_in_front : (format : Format) (bytes : ℕ → ℕ) (from count k m j : ℕ) (read rest new behind : List ℕ)
+    → k ≡ count * pixel_length format → m ≡ count → j ≡ k → read ≡ map_list bytes (range_with_len from j)
+    → new ≡ row_colours format m (take k (read ++ rest))
+    → take count (new ++ behind) ≡ colours_from bytes format from count
+colours_in_front format bytes from count k m j read rest new behind all sized whole is shown =
+    take_at new behind count (ap length colours ∙ length-map-range_with_len colour 0 count) ∙ colours
+  where
+    colour : ℕ → ℕ
+    colour i = colour_at bytes format (from + i * pixel_length format)
+
+    bytes_read : read ≡ map_list bytes (range_with_len from (count * pixel_length format))
+    bytes_read = is ∙ ap (λ n. map_list bytes (range_with_len from n)) (whole ∙ all)
+
+    long : length read ≡ k
+    long = ap length is ∙ length-map-range_with_len bytes from j ∙ whole
+
+    colours : new ≡ colours_from bytes format from count
+    colours = shown ∙ (λ i. row_colours format (sized i) (take_at read rest k long i))
+        ∙ ap (row_colours format count) bytes_read ∙ colours_read format bytes from count

@@ -1,0 +1,105 @@
+//! Bytes of a region, page by page.
+ghost use Rattle.std.specs.Prelude.{◌≡◌, ◌+◌, ◌-◌, ◌%◌, ◌<◌, ◌≤◌, ◌^◌, ◌++◌, IsSome, Some, drop, length, map as map_list, min, take};
+ghost use Rattle.std.specs.List.{range_with_len};
+ghost use Rattle.svga_model.specs.Memories.{region_byte, writes_from, written};
+ghost use Rattle.svga_model.specs.RegionBytes.{page_of_byte};
+ghost use Rattle.svga_model.specs.Regions.{region_places};
+ghost use Rattle.svga_transfer.specs.Reach.{HasBytes};
+
+use svga_cmd::{PageKey, PageStore};
+use svga_region::Regions;
+
+/// The page that a mapped byte lies on, and the byte's number there.
+fn locate(regions: &Regions, region: u32, at: u64) -> (PageKey, usize)
+    requires mapped { IsSome (page_of_byte (region_places regions.now.frame regions.now.regions region) at) }
+    ensures page { page_of_byte (region_places regions.now.frame regions.now.regions region) at ≡ Some result.0 }
+    ensures start { result.1 ≡ at % 4096 }
+{
+    match regions.locate(region, at) {
+        Ok((key, start)) => (key, start as usize),
+        Err(_) => unreachable!(),
+    }
+}
+
+/// Reads bytes of a region from byte `at` on, as far as the page goes that it lies on. Answers how many were read.
+fn read_piece<P: PageStore>(
+    regions: &Regions,
+    store: &P,
+    region: u32,
+    at: u64,
+    bytes: &mut [u8],
+) -> usize
+    requires some { 0 < length bytes.old }
+    requires there { HasBytes (P.pages store.now) (region_places regions.now.frame regions.now.regions region) at (length bytes.old) }
+    ensures count { result ≡ min (length bytes.old) (4096 - at % 4096) }
+    ensures read { bytes.new ≡ map_list (region_byte (P.pages store.now) (region_places regions.now.frame regions.now.regions region)) (range_with_len at result) ++ drop result bytes.old }
+{
+    let (key, start) = locate(regions, region, at);
+    let page = store.page(key).bytes();
+    let count = bytes.len().min(page.len() - start);
+    bytes[..count].copy_from_slice(&page[start..start + count]);
+    count
+}
+
+/// Reads the bytes of a region from byte `from` on.
+pub fn read_bytes<P: PageStore>(
+    regions: &Regions,
+    store: &P,
+    region: u32,
+    from: u64,
+    bytes: &mut [u8],
+)
+    requires there { HasBytes (P.pages store.now) (region_places regions.now.frame regions.now.regions region) from (length bytes.old) }
+    ensures { bytes.new ≡ map_list (region_byte (P.pages store.now) (region_places regions.now.frame regions.now.regions region)) (range_with_len from (length bytes.old)) }
+{
+    // Asked once, so that the proof knows that no number of a byte is too large.
+    let _places = regions.length(region);
+    let mut done = 0;
+    while done < bytes.len() {
+        let at = from + done as u64;
+        done += read_piece(regions, store, region, at, &mut bytes[done..]);
+    }
+}
+
+/// Writes bytes to a region from byte `at` on, as far as the page goes that it lies on. Answers how many were written.
+fn write_piece<P: PageStore>(
+    regions: &Regions,
+    store: &mut P,
+    region: u32,
+    at: u64,
+    bytes: &[u8],
+) -> usize
+    requires some { 0 < length bytes.now }
+    requires there { HasBytes (P.pages store.old) (region_places regions.now.frame regions.now.regions region) at (length bytes.now) }
+    ensures count { result ≡ min (length bytes.now) (4096 - at % 4096) }
+    ensures written { P.pages store.new ≡ written (region_places regions.now.frame regions.now.regions region) (P.pages store.old) (writes_from at (take result bytes.now)) }
+    ensures rest { P.rest store.new ≡ P.rest store.old }
+{
+    let (key, start) = locate(regions, region, at);
+    let page = store.page_mut(key).bytes_mut();
+    let count = bytes.len().min(page.len() - start);
+    page[start..start + count].copy_from_slice(&bytes[..count]);
+    count
+}
+
+/// Writes bytes to a region from byte `from` on, one after another: where two places are mapped to one page, what is
+/// written last stands.
+pub fn write_bytes<P: PageStore>(
+    regions: &Regions,
+    store: &mut P,
+    region: u32,
+    from: u64,
+    bytes: &[u8],
+)
+    requires there { HasBytes (P.pages store.old) (region_places regions.now.frame regions.now.regions region) from (length bytes.now) }
+    ensures written { P.pages store.new ≡ written (region_places regions.now.frame regions.now.regions region) (P.pages store.old) (writes_from from bytes.now) }
+    ensures rest { P.rest store.new ≡ P.rest store.old }
+{
+    // Asked once, so that the proof knows that no number of a byte is too large.
+    let _places = regions.length(region);
+    let mut done = 0;
+    while done < bytes.len() {
+        let at = from + done as u64;
+        done += write_piece(regions, store, region, at, &bytes[done..]);
+    }
+}

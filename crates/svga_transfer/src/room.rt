@@ -1,0 +1,31 @@
+//! Room for one row of pixels.
+ghost use Rattle.std.specs.Prelude.{◌≡◌};
+
+use std::alloc::{AllocError, Global};
+use std::marker::Model;
+
+/// Room for the colours of the longest row of a screen, 8,192 pixels, and for their bytes in any format.
+#[derive(Drop)]
+pub struct RowRoom {
+    pub(crate) colours: Vec<u32>,
+    pub(crate) bytes: Vec<u8>,
+}
+
+impl Model for RowRoom {
+    ghost use Rattle.std.specs.Prelude.{◌≡◌, length};
+
+    ghost Value = { Unit {0} };
+
+    ghost view = { λ _. tt };
+
+    ghost invariant = { λ room. (length room.colours.items ≡ 8192) × (length room.bytes.items ≡ 32768) };
+}
+
+impl RowRoom {
+    /// The only call of this crate that takes memory.
+    pub fn new(alloc: Global) -> Result<RowRoom, AllocError> {
+        let colours = vec![in alloc; 0; 8192]?;
+        let bytes = vec![in alloc; 0; 32768]?;
+        Ok(RowRoom { colours, bytes })
+    }
+}

@@ -1,0 +1,1 @@
+//! Pixels that are moved, by worked cases.
