@@ -1,0 +1,10 @@
+pub mod AllRuns
+pub mod ChainParts
+pub mod PartsLaws
+pub mod RunLaws
+pub mod StoreLaws
+pub mod StoreStates
+pub mod ViaBytes
+pub mod ViaLaws
+pub mod ViaNumbers
+pub mod ViaShapes

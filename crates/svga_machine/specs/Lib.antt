@@ -1,0 +1,5 @@
+pub mod Displays
+pub mod Effects
+pub mod Listed
+pub mod MachineSet
+pub mod Touched
