@@ -5,6 +5,9 @@ pub mod BlitEffects
 pub mod BlitExamples
 pub mod BlitFaults
 pub mod BlitPixels
+pub mod CaptureExamples
+pub mod CaptureFields
+pub mod Captures
 pub mod Codes
 pub mod Colours
 pub mod Endings

@@ -4,6 +4,7 @@
 #![tactic(auto)]
 
 mod addresses;
+mod captures;
 mod examples;
 mod faults;
 mod fences;
@@ -14,6 +15,7 @@ mod states;
 mod touches;
 
 pub use addresses::one_turn;
+pub use captures::{small_captures, words_of_captures};
 pub use examples::{
     blit_at_a_corner, empty_region, overlapping_screens, pixel_over_two_places,
     remap_of_its_own_numbers, update_past_the_edge,
