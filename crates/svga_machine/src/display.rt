@@ -12,6 +12,7 @@ ghost use Rattle.svga_model.specs.Memories.{page_bytes};
 ghost use Rattle.svga_model.specs.Screens.{painted_row};
 ghost use Rattle.svga_model.specs.States.{opening_kept};
 ghost use Rattle.svga_model.specs.Steps.{step};
+ghost use Rattle.svga_machine.specs.Displays.{IsWholeState};
 ghost use Rattle.svga_machine.specs.Effects.{IsEffect};
 
 use crate::effect::Effect;
@@ -59,7 +60,7 @@ impl Display {
         })
     }
 
-    /// Runs a command. A fault is told before anything changes.
+    /// Runs a command. A fault changes nothing.
     pub fn run(&mut self, command: &CommandRef<'_>) -> Result<Effect, Fault>
         requires { IsWellFormed (command_of command.now) }
         ensures fault { result_err result ≡ fault_of self.old (Do (command_of command.now)) }
@@ -72,7 +73,9 @@ impl Display {
 
     /// The machine, which has the screens.
     pub fn machine(&self) -> &Machine
-        ensures { result.now.kept ≡ self.now.kept }
+        ensures kept { result.now.kept ≡ self.now.kept }
+        // Whoever asks for it learns that the state is valid and that no page is lacking.
+        ensures valid { IsWholeState self.now.kept.limits self.now }
     {
         &self.machine
     }

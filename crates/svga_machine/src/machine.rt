@@ -84,8 +84,8 @@ impl Machine {
         })
     }
 
-    /// Runs a command on the pages of a store. A fault is told before anything changes. Of the store's pages it needs
-    /// those of the region that the command touches.
+    /// Runs a command on the pages of a store. A fault changes nothing. Of the store's pages it needs those of the region
+    /// that the command touches.
     pub fn run<P: PageStore>(
         &mut self,
         store: &mut P,

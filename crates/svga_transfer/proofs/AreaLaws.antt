@@ -3,7 +3,6 @@ use Rattle.std.proofs.Common.{◌≡◌, ℕ, ◌+◌, ◌<◌, ◌≤◌, refl,
 use Rattle.std.proofs.lemmas.Bool.{and_right, both_ways, cases_lt, cond-false}
 use Rattle.std.proofs.lemmas.List.{get_or_append_left, get_or_push}
 use Rattle.std.proofs.lemmas.Bool.Decides.{nat_tests}
-use Rattle.std.proofs.lemmas.Option.{none-some}
 use Rattle.svga_cmd.specs.declared.blit.Blit.{Blit}
 use Rattle.svga_cmd.specs.declared.gmrfb.Gmrfb.{Gmrfb}
 use Rattle.svga_cmd.specs.declared.screen.ScreenDef.{ScreenDef}
@@ -11,7 +10,7 @@ use Rattle.svga_model.specs.BlitEffects.{blit_colour, colour_at}
 use Rattle.svga_model.specs.BlitPixels.{blit_offset, corner_x, corner_y, is_in_rect, is_meant}
 use Rattle.svga_screen.specs.Clips.{IsClip, is_inside, no_area}
 use Rattle.svga_screen.specs.declared.area.Area.{Area}
-use Rattle.svga_transfer.specs.Areas.{ArePainted, HasAreaOf, IsPainted, area_at}
+use Rattle.svga_transfer.specs.Areas.{HasAreaOf, IsPainted, area_at}
 
 -- a colour under a test is there where the test holds
 pub some_under : (t : Bool) (c : ℕ) → is_some (cond t (Some c) None) ≡ t
@@ -64,24 +63,17 @@ module _ (b : Blit) (id : ℕ) (d : ScreenDef) (x y : ℤ) (area : Area) (is_x :
       some_rows none = some (ap (λ a. a.width) (clip.no_rows none))
 
 -- The areas of the screens with ids below n, of which each is painted where a pixel of the screen gets a colour.
-pub record AreAreas (colour : ℕ → ScreenDef → ℕ → ℕ → Option ℕ) (definitions : ℕ → Option ScreenDef) (n : ℕ) (areas : List Area) : Type 0 where
+pub record AreAreas (colour : ℕ → ScreenDef → ℕ → ℕ → Option ℕ) (definitions : ℕ → Option ScreenDef) (n : ℕ)
+    (areas : List Area) : Type 0 where
   pub count : length areas ≤ n
   pub below : (i : ℕ) → i < length areas → (area_at areas i).screen < n
-  pub each : (i : ℕ) → i < length areas → IsSomeAnd (definitions (area_at areas i).screen) (λ d. IsPainted (colour (area_at areas i).screen d) d (area_at areas i))
+  pub each : (i : ℕ) → i < length areas → IsSomeAnd (definitions (area_at areas i).screen)
+      (λ d. IsPainted (colour (area_at areas i).screen d) d (area_at areas i))
   pub ascending : (i j : ℕ) → i < j → j < length areas → (area_at areas i).screen < (area_at areas j).screen
-  pub all : (id : ℕ) (d : ScreenDef) (x y : ℕ) → id < n → definitions id ≡ Some d → x < d.width → y < d.height → is_some (colour id d x y) ≡ true → HasAreaOf areas id
+  pub all : (id : ℕ) (d : ScreenDef) (x y : ℕ) → id < n → definitions id ≡ Some d → x < d.width → y < d.height
+      → is_some (colour id d x y) ≡ true → HasAreaOf areas id
 
 module _ (colour : ℕ → ScreenDef → ℕ → ℕ → Option ℕ) (definitions : ℕ → Option ScreenDef) where
-  -- at first there is none
-  pub no_areas : AreAreas colour definitions 0 []
-  no_areas = record {
-    count = omega arith;
-    below = λ i l. absurd (omega arith);
-    each = λ i l. absurd (omega arith);
-    ascending = λ i j l k. absurd (omega arith);
-    all = λ id d x y l is wide high some. absurd (omega arith);
-  }
-
   -- a screen of which no pixel gets a colour has none
   pub same_areas : (n : ℕ) (areas : List Area) → AreAreas colour definitions n areas
       → ((d : ScreenDef) (x y : ℕ) → definitions n ≡ Some d → x < d.width → y < d.height → colour n d x y ≡ None)
@@ -159,15 +151,3 @@ module _ (colour : ℕ → ScreenDef → ℕ → ℕ → Option ℕ) (definition
         | inr past ↦ subst (HasAreaOf more) (let last : n ≡ id = omega arith in last) has_last
       ];
     }
-
-  -- where no screen has a higher id all areas are there
-  pub all_areas : ((q : ℕ) → 16 ≤ q → definitions q ≡ None) → (areas : List Area) → AreAreas colour definitions 16 areas
-      → ArePainted colour definitions areas
-  all_areas past areas are = record {
-    each = are.each;
-    ascending = are.ascending;
-    all = λ id d x y is wide high some. elim (cases_lt id 16) as (λ _. HasAreaOf areas id) [
-      | inl low ↦ are.all id d x y low is wide high some
-      | inr beyond ↦ absurd (none-some d (sym (past id beyond) ∙ is))
-    ];
-  }

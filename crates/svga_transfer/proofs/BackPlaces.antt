@@ -22,7 +22,8 @@ first_is_in [] q e = absurd (cc)
 first_is_in (s ∷ ss) q e = inl (cc)
 
 module _ (definitions : ℕ → Option ScreenDef) (g : Gmrfb) (b : Blit) (Y : ℤ) (r : Run) (run : IsRun definitions b Y r)
-    (top : b.rect.top ≤ℤ Y) (bottom : Y <ℤ b.rect.bottom) (places : Places) (are : AreMapped definitions g b places) where
+    (top : b.rect.top ≤ℤ Y) (bottom : Y <ℤ b.rect.bottom) (places : Places)
+    (are : AreMapped definitions g b places) where
   -- each byte of each of its pixels is one of the region's, on a mapped place
   each_reached : (k : ℕ) → k < r.length → (j : ℕ) → j < pixel_length g.format
       → IsReached places (blit_offset g b (r.from +ℤ pos k) Y +ℤ pos j)

@@ -58,7 +58,8 @@ module _ (bytes : ℕ → ℕ) (g : Gmrfb) (b : Blit) (id : ℕ) (s : Screen) (a
 
   -- outside the area no pixel gets a colour, and inside the blit shows each
   bare : (u v : ℕ) → u < s.def.width → v < s.def.height → is_inside a u v ≡ false → colour u v ≡ None
-  bare u v wide high e = none_is (colour u v) (not_from_false (is_some (colour u v)) (sym (area.same u v wide high) ∙ e))
+  bare u v wide high e =
+      none_is (colour u v) (not_from_false (is_some (colour u v)) (sym (area.same u v wide high) ∙ e))
 
   shown : (u v : ℕ) → u < s.def.width → v < s.def.height → is_inside a u v ≡ true
       → (is_meant b.screen id && is_in_rect b.rect (X_of u) (Y_of v)) ≡ true

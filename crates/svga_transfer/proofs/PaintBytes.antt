@@ -1,6 +1,5 @@
 -- The colours of pixels whose bytes were read.
-use Rattle.std.proofs.Common.{◌≡◌, ℕ, ◌+◌, ◌*◌, ◌<◌, ◌≤◌, refl, sym, ap, ◌∙◌, List, [], length, map as map_list, slice_index, take, ◌++◌, Option, Some, None, unwrap_or, arith}
-use Rattle.std.specs.Prelude.{option_map}
+use Rattle.std.proofs.Common.{◌≡◌, ℕ, ◌+◌, ◌*◌, ◌<◌, ◌≤◌, refl, sym, ap, ◌∙◌, List, length, map as map_list, slice_index, take, ◌++◌, arith}
 use Rattle.std.proofs.Math.Nat.{mul-le-mul_left}
 use Rattle.std.proofs.lemmas.Grind.{same_number_lists}
 use Rattle.std.proofs.lemmas.List.{take_at}
@@ -10,17 +9,11 @@ use Rattle.std.specs.List.{range_with_len}
 use Rattle.svga_cmd.specs.declared.format.Format.{Format}
 use Rattle.svga_model.specs.BlitEffects.{colour_at}
 use Rattle.svga_model.specs.Colours.{colour_of, pixel_at, pixel_length, row_colours}
-use Rattle.svga_model.specs.Regions.{Places}
 use Rattle.svga_transfer.proofs.ListLaws.{same_map}
 use Rattle.svga_transfer.specs.Painting.{colours_from}
 
--- a region's places are counted alike whether or not it is there
-pub places_length : (o : Option Places) → unwrap_or (option_map length o) 0 ≡ length (unwrap_or o [])
-places_length None = refl
-places_length (Some places) = refl
-
 -- the bytes of one of so many pixels end within those of all
-pub ends_within : (k count n : ℕ) → k < count → k * n + n ≤ count * n
+ends_within : (k count n : ℕ) → k < count → k * n + n ≤ count * n
 ends_within k count n l = grind (arith, mul-le-mul_left)
 
 module _ (format : Format) (bytes : ℕ → ℕ) (from count : ℕ) where
@@ -53,7 +46,7 @@ module _ (format : Format) (bytes : ℕ → ℕ) (from count : ℕ) where
           ∙ sym (get_or-map-range_with_len bytes (from + k * n) n j (from + k * n + j) 0 below refl)
 
   -- the colours of a row of these bytes
-  pub colours_read : row_colours format count read ≡ colours_from bytes format from count
+  colours_read : row_colours format count read ≡ colours_from bytes format from count
   colours_read = same_map (λ k. colour_of format (pixel_at format read k))
       (λ k. colour_at bytes format (from + k * pixel_length format)) 0 count
       (λ k low high. ap (colour_of format) (pixel_read k (omega arith)))

@@ -55,7 +55,8 @@ module _ (s : Screen) where
   length-repainted : (colour : Colours) → length (repainted colour s).rows ≡ s.def.height
   length-repainted colour = length-map-range_with_len (new_row colour) 0 s.def.height
 
-  row_is : (colour : Colours) (y : ℕ) → y < s.def.height → slice_index_or (repainted colour s).rows y [] ≡ new_row colour y
+  row_is : (colour : Colours) (y : ℕ) → y < s.def.height
+      → slice_index_or (repainted colour s).rows y [] ≡ new_row colour y
   row_is colour y l = get_or-map-range_with_len (new_row colour) 0 s.def.height y y [] l (omega arith)
 
   -- the same colours for each pixel of a row, and of the screen
@@ -131,13 +132,14 @@ module _ (s : Screen) where
     painted_over = painted_row (slice_index_or old_rows y []) left colours
 
     rows_at : (r : ℕ) → r < s.def.height → slice_index_or (slice_set old_rows y painted_over) r [] ≡ new_row new r
-    rows_at r l = elim (cases_eq r y) as (λ _. slice_index_or (slice_set old_rows y painted_over) r [] ≡ new_row new r) [
-      | inl is ↦ subst (λ q. slice_index_or (slice_set old_rows y painted_over) q [] ≡ new_row new q) (sym is)
-          (get_or-set_same old_rows y painted_over [] (omega (arith, high, length-repainted colour))
-          ∙ ap (λ xs. painted_row xs left colours) (row_is colour y high) ∙ row_painted)
-      | inr ne ↦ get_or-set_other old_rows y r painted_over [] ne ∙ row_is colour r l
-          ∙ same_row colour new r (λ x wide. others x r wide l ne)
-    ]
+    rows_at r l = elim (cases_eq r y)
+        as (λ _. slice_index_or (slice_set old_rows y painted_over) r [] ≡ new_row new r) [
+          | inl is ↦ subst (λ q. slice_index_or (slice_set old_rows y painted_over) q [] ≡ new_row new q) (sym is)
+              (get_or-set_same old_rows y painted_over [] (omega (arith, high, length-repainted colour))
+              ∙ ap (λ xs. painted_row xs left colours) (row_is colour y high) ∙ row_painted)
+          | inr ne ↦ get_or-set_other old_rows y r painted_over [] ne ∙ row_is colour r l
+              ∙ same_row colour new r (λ x wide. others x r wide l ne)
+        ]
 
     pub painted_more : painted_screen (repainted colour s) left y colours ≡ repainted new s
     painted_more = λ i. record { def = s.def; rows = rows i } where

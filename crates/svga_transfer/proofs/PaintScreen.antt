@@ -26,13 +26,13 @@ use Rattle.svga_transfer.specs.Painting.{IsRepainted, above, colours_from}
 use Rattle.svga_transfer.specs.Reach.{AreMapped, HasBytes, HasPages}
 
 -- a screen that is defined is there
-pub the_screen : (o : Option Screen) (d : ScreenDef) → option_map (λ s. s.def) o ≡ Some d
+the_screen : (o : Option Screen) (d : ScreenDef) → option_map (λ s. s.def) o ≡ Some d
     → (s : Screen) × (o ≡ Some s) × (s.def ≡ d)
 the_screen None d e = absurd (cc)
 the_screen (Some s) d e = (s, refl, cc)
 
 -- and it is a screen of its id
-pub its_screen : (id : ℕ) (o : Option Screen) (s : Screen) → o ≡ Some s → IfSome o (IsScreen id) → IsScreen id s
+its_screen : (id : ℕ) (o : Option Screen) (s : Screen) → o ≡ Some s → IfSome o (IsScreen id) → IsScreen id s
 its_screen id None s e is = absurd (cc)
 its_screen id (Some t) s e is = let same : t ≡ s = cc in subst (IsScreen id) same is
 
@@ -43,7 +43,7 @@ kept_def colour None = refl
 kept_def colour (Some s) = refl
 
 -- The definitions are the same where one screen has new colours.
-pub same_definition : (colour : ScreenDef → ℕ → ℕ → Option ℕ) (id : ℕ) (old new : ScreenSet)
+same_definition : (colour : ScreenDef → ℕ → ℕ → Option ℕ) (id : ℕ) (old new : ScreenSet)
     → IsRepainted colour id old new
     → (q : ℕ) → definitions_of new.screens q ≡ definitions_of old.screens q
 same_definition colour id old new is q = by_key nat_cmp_total nat_cmp-IsAntisymmetric q id

@@ -1,36 +1,25 @@
 -- The screens get their new colours one after another, by their ids.
-use Rattle.std.proofs.Common.{◌≡◌, ℕ, ◌+◌, ◌<◌, ◌≤◌, inl, inr, refl, sym, ap, subst, ◌∙◌, Option, None, arith}
+use Rattle.std.proofs.Common.{◌≡◌, ℕ, ◌+◌, ◌<◌, ◌≤◌, inl, inr, sym, ap, subst, ◌∙◌, Option, None, arith}
 use Rattle.std.specs.Prelude.{option_map}
 use Rattle.std.proofs.lemmas.Bool.{cases_lt}
 use Rattle.std.specs.Cmp.{nat_cmp_total}
 use Rattle.std.specs.FinMap as map
 use Rattle.std.specs.FinMap.{nat_cmp-IsAntisymmetric}
 use Rattle.svga_cmd.proofs.Maps.{same_gets}
-use Rattle.svga_cmd.specs.declared.blit.Blit.{Blit}
-use Rattle.svga_cmd.specs.declared.gmrfb.Gmrfb.{Gmrfb}
 use Rattle.svga_cmd.specs.declared.screen.ScreenDef.{ScreenDef}
 use Rattle.svga_model.proofs.TabulatedLaws.{get-tabulated, get-tabulated_past}
 use Rattle.svga_model.specs.BlitEffects.{repainted, repainted_screens}
-use Rattle.svga_model.specs.Regions.{Places}
 use Rattle.svga_model.specs.Screens.{Screen, definitions_of}
 use Rattle.svga_screen.specs.ScreenSet.{ScreenSet}
 use Rattle.svga_transfer.proofs.PaintScreen.{kept_def}
 use Rattle.svga_transfer.specs.Painting.{IsRepainted}
-use Rattle.svga_transfer.specs.Reach.{AreMapped}
 
 -- the screens with ids below n have their new colours, and the others are as they were
 pub record AreRepainted (colour : ℕ → ScreenDef → ℕ → ℕ → Option ℕ) (n : ℕ) (old new : ScreenSet) : Type 0 where
   pub budget : new.budget ≡ old.budget
-  pub below : (id : ℕ) → id < n → map.get new.screens id ≡ option_map (λ s. repainted (colour id s.def) s) (map.get old.screens id)
+  pub below : (id : ℕ) → id < n
+      → map.get new.screens id ≡ option_map (λ s. repainted (colour id s.def) s) (map.get old.screens id)
   pub from : (id : ℕ) → n ≤ id → map.get new.screens id ≡ map.get old.screens id
-
--- at first none has
-pub none_yet : (colour : ℕ → ScreenDef → ℕ → ℕ → Option ℕ) (old : ScreenSet) → AreRepainted colour 0 old old
-none_yet colour old = record {
-  budget = refl;
-  below = λ id l. absurd (omega arith);
-  from = λ id l. refl;
-}
 
 module _ (colour : ℕ → ScreenDef → ℕ → ℕ → Option ℕ) (old : ScreenSet) where
   abbrev slot : ℕ → Option Screen
@@ -60,13 +49,6 @@ module _ (colour : ℕ → ScreenDef → ℕ → ℕ → Option ℕ) (old : Scre
   pub same_definitions : (n : ℕ) (now : ScreenSet) → AreRepainted colour n old now
       → definitions_of now.screens ≡ definitions_of old.screens
   same_definitions n now done = λ i id. same_at n now done id i
-
-  -- and so the blit may be done as before
-  pub still_mapped : (n : ℕ) (now : ScreenSet) → AreRepainted colour n old now
-      → (g : Gmrfb) (b : Blit) (places : Places)
-      → AreMapped (definitions_of old.screens) g b places → AreMapped (definitions_of now.screens) g b places
-  still_mapped n now done g b places =
-      subst (λ definitions. AreMapped definitions g b places) (sym (same_definitions n now done))
 
   -- behind the last id all screens have their new colours
   module _ (past : (q : ℕ) → 16 ≤ q → map.get old.screens q ≡ None) (now : ScreenSet)

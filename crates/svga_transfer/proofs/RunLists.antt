@@ -26,12 +26,12 @@ first_listed f from (suc count) id p low high none some = elim (cases_lt from id
 ]
 
 module _ (definitions : ℕ → Option ScreenDef) (b : Blit) where
-  pub bare_of_all : (Y from to : ℤ) → IsBareOf definitions b 0 16 Y from to → IsBare definitions b Y from to
+  bare_of_all : (Y from to : ℤ) → IsBareOf definitions b 0 16 Y from to → IsBare definitions b Y from to
   bare_of_all Y from to h X low high =
       filter_map-none_below (λ id. covered_on (definitions id) id b.screen X Y) 0 16
       (λ id l. h id (omega arith) l X low high)
 
-  pub next_of_all : (from Y : ℤ) (r : Run) → b.rect.left ≤ℤ from → IsFirstOf definitions b 0 16 from b.rect.right Y r
+  next_of_all : (from Y : ℤ) (r : Run) → b.rect.left ≤ℤ from → IsFirstOf definitions b 0 16 from b.rect.right Y r
       → IsNextRun definitions b from Y r
   next_of_all from Y r left h = record {
     behind = h.behind;

@@ -1,8 +1,7 @@
 -- The bytes of an UPDATE's blit lie on the guest framebuffer, all of whose places are mapped.
-use Rattle.std.proofs.Common.{◌≡◌, ℕ, ◌+◌, ◌*◌, ◌/◌, ◌<◌, ◌≤◌, sym, ◌∙◌, subst, Option, Some, None, Bool, false, ◌&&◌, ◌||◌, not, ℤ, pos, ◌+ℤ◌, int_lt, unsigned_abs, is_none, arith}
+use Rattle.std.proofs.Common.{◌≡◌, ℕ, ◌+◌, ◌*◌, ◌/◌, ◌<◌, ◌≤◌, sym, ◌∙◌, subst, Option, Some, Bool, false, ◌&&◌, ◌||◌, not, ℤ, pos, ◌+ℤ◌, int_lt, unsigned_abs, is_none, arith}
 use Rattle.std.proofs.Math.Nat.{mul-le-mul_right}
 use Rattle.std.proofs.lemmas.Bool.Decides.{nat_tests}
-use Rattle.std.proofs.lemmas.List.FromFn.{get_or-map-range_with_len, length-map-range_with_len}
 use Rattle.std.specs.List.{list_any, range_with_len}
 use Rattle.svga_cmd.specs.Limits.{frame_page_count}
 use Rattle.svga_cmd.specs.declared.blit.Blit.{Blit}
@@ -18,6 +17,7 @@ use Rattle.svga_model.specs.BlitPixels.{BlitPixel, blit_pixels, is_in_area}
 use Rattle.svga_model.specs.Members.{IsIn}
 use Rattle.svga_model.specs.RegionBytes.{is_beyond, page_of_byte}
 use Rattle.svga_model.specs.Regions.{Regions, frame_places, region_places}
+use Rattle.svga_region.proofs.PlaceLaws.{frame_place, length-frame_places, within as bytes_within}
 use Rattle.svga_transfer.proofs.ListLaws.{each_fails}
 use Rattle.svga_transfer.proofs.UpdatePlaces.{IsOnFrame, in_cut, offset_at, on_frame}
 use Rattle.svga_transfer.specs.Reach.{AreMapped}
@@ -30,14 +30,10 @@ not_negative i = grind (arith, nat_tests)
 -- a byte of the framebuffer's pages is one of its region's, and lies on a mapped place
 module _ (frame i : ℕ) (inside : i < 4096 * frame) where
   not_beyond : is_beyond (frame_places frame) i ≡ false
-  not_beyond =
-      let long = length-map-range_with_len (λ n. Some (Frame n)) 0 frame in
-      grind (arith, nat_tests, long)
+  not_beyond = bytes_within (frame_places frame) i (omega (arith, length-frame_places frame))
 
   page_is : page_of_byte (frame_places frame) i ≡ Some (Frame (i / 4096))
-  page_is =
-      let place = i / 4096 in
-      get_or-map-range_with_len (λ n. Some (Frame n)) 0 frame place place None (omega arith) (omega arith)
+  page_is = frame_place frame (i / 4096) (omega arith)
 
   not_outside : is_outside (frame_places frame) (pos i) ≡ false
   not_outside = λ t. not_negative i t || not_beyond t

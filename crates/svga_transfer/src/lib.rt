@@ -20,6 +20,3 @@ pub use paint::blit_to_screens;
 pub use room::RowRoom;
 pub use update::{Extent, update_screens};
 pub use words::read_words;
-
-#[cfg(test)]
-mod tests;

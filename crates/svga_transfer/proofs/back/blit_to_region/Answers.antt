@@ -20,7 +20,8 @@ loop-from-smaller g c =
     let bottom = c.args.blit.now.rect.bottom in
     let from = to_z w64 c.loop-from.from-bits in
     let found = c.in-Some.ensures.found in
-    let next : to_z w64 (of_z w64 (to_z w64 (of_z w64 y) +ℤ pos 1)) ≡ y +ℤ pos 1 = omega (arith, ints, found.0, found.1) in
+    let next : to_z w64 (of_z w64 (to_z w64 (of_z w64 y) +ℤ pos 1)) ≡ y +ℤ pos 1 =
+    omega (arith, ints, found.0, found.1) in
     subst (λ z. int_gap z bottom < int_gap from bottom) (sym next)
     (gap_less from (y +ℤ pos 1) bottom (omega (arith, ints, found.0)) (omega (arith, ints, found.1)))
 

@@ -1,6 +1,4 @@
 use Rattle.std.proofs.Common.{◌-◌, ◌≤◌, arith, drop, length, length-take, take}
-use Rattle.svga_model.specs.Memories.{region_byte}
-use Rattle.svga_model.specs.Regions.{region_places}
 use Rattle.svga_transfer.proofs.ByteReads.{read_more}
 use Rattle.svga_transfer.proofs.bytes.read_bytes.Goals as goal
 
@@ -12,10 +10,12 @@ loop-done-preserved g c =
     let most : length left ≤ length bytes - done =
     omega (arith, length-take (length bytes - done) (drop done bytes)) in
     record {
-      within = omega (arith, c.read_piece-done.ensures.count, most, c.loop-done.auto.bytes, c.loop-done.invariant.within);
-      read = read_more
-          (region_byte (g.P.PageStore.pages c.args.store.now)
-          (region_places c.args.regions.now.frame c.args.regions.now.regions c.args.region))
-          c.args.bytes.now bytes c.read_piece-done.new.bytes c.args.from done c.read_piece-done.result
-          c.loop-done.invariant.read c.read_piece-done.ensures.read;
+      within = omega (
+        arith,
+        c.read_piece-done.ensures.count,
+        most,
+        c.loop-done.auto.bytes,
+        c.loop-done.invariant.within,
+      );
+      read = read_more _ _ _ _ _ _ _ c.loop-done.invariant.read c.read_piece-done.ensures.read;
     }

@@ -1,5 +1,4 @@
 use Rattle.std.proofs.Common.{◌≡◌, ◌+◌, ◌-◌, ◌∙◌, ◌++◌, ap, drop, take, arith, length}
-use Rattle.svga_model.specs.Regions.{region_places}
 use Rattle.svga_transfer.proofs.ByteReads.{piece_read}
 use Rattle.svga_transfer.proofs.bytes.read_piece.Goals as goal
 
@@ -12,9 +11,7 @@ returns-clause-read g c =
     ap (λ bytes. bytes ++ drop count c.args.bytes.now)
     (c.copy_from_slice.ensures.after
     ∙ (λ i. take (copied i) (drop (at i) (c.bytes-page.ensures.bytes i)))
-    ∙ piece_read (g.P.PageStore.pages c.args.store.now)
-    (region_places c.args.regions.now.frame c.args.regions.now.regions c.args.region)
-    c.locate-key.result.0 c.page.result.now c.args.at count
+    ∙ piece_read _ _ _ _ _ _
     (omega (arith, ap length c.bytes-page.ensures.bytes, c.bytes-page.ensures.length))
     (omega (arith, at, c.min-count.ensures, c.bytes-page.ensures.length))
     c.locate-key.ensures.page c.page.ensures)

@@ -1,6 +1,5 @@
 use Rattle.std.proofs.Common.{◌-◌, ◌≤◌, ◌∙◌, arith, drop, length, length-take, take}
 use Rattle.svga_model.specs.Memories.{writes_from}
-use Rattle.svga_model.specs.Regions.{region_places}
 use Rattle.svga_transfer.proofs.ByteKeys.{written_bytes_keep}
 use Rattle.svga_transfer.proofs.ByteWrites.{written_more}
 use Rattle.svga_transfer.proofs.bytes.write_bytes.Goals as goal
@@ -9,11 +8,8 @@ pub write_piece-done-requires-clause-there : goal.write_piece-done-requires-clau
 write_piece-done-requires-clause-there g c = λ i low high.
     let bytes = c.args.bytes.now in
     let done = c.loop-done.done in
-    written_bytes_keep (region_places c.args.regions.now.frame c.args.regions.now.regions c.args.region)
-    (g.P.PageStore.pages c.args.store.now) (g.P.PageStore.pages c.loop-done.store)
-    (writes_from c.args.from (take done bytes)) c.args.from (length bytes)
-    c.loop-done.invariant.pages c.requires.there i
-    (omega (arith, low))
+    written_bytes_keep _ _ _ (writes_from c.args.from (take done bytes)) _ _ c.loop-done.invariant.pages
+    c.requires.there i (omega (arith, low))
     (omega (arith, high, length-take (length bytes - done) (drop done bytes), c.loop-done.invariant.within))
 
 pub loop-done-preserved : goal.loop-done-preserved
@@ -25,9 +21,7 @@ loop-done-preserved g c =
     omega (arith, length-take (length bytes - done) (drop done bytes)) in
     record {
       within = omega (arith, c.write_piece-done.ensures.count, most, c.loop-done.invariant.within);
-      pages = written_more (region_places c.args.regions.now.frame c.args.regions.now.regions c.args.region)
-          (g.P.PageStore.pages c.args.store.now) (g.P.PageStore.pages c.loop-done.store)
-          (g.P.PageStore.pages c.write_piece-done.new.store) bytes c.args.from done c.write_piece-done.result c.loop-done.invariant.within
-          c.loop-done.invariant.pages c.write_piece-done.ensures.written;
+      pages = written_more _ _ _ _ _ _ _ _ c.loop-done.invariant.within c.loop-done.invariant.pages
+          c.write_piece-done.ensures.written;
       rest = c.write_piece-done.ensures.rest ∙ c.loop-done.invariant.rest;
     }

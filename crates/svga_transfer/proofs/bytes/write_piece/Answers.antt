@@ -1,7 +1,6 @@
 use Rattle.std.proofs.Common.{◌≡◌, ◌+◌, ◌-◌, ◌∙◌, ap, sym, is_some, take, arith, length, length-take}
 use borrow.Rule.Slice.PartMut.{put_mid}
 use Rattle.std.specs.FinMap as map
-use Rattle.svga_model.specs.Regions.{region_places}
 use Rattle.svga_transfer.proofs.ByteWrites.{piece_written}
 use Rattle.svga_transfer.proofs.bytes.write_piece.Goals as goal
 
@@ -19,8 +18,7 @@ returns-clause-written g c =
     g.met.P.PageStore.pages_with c.args.store.now key put (ap is_some c.page_mut.ensures.page)
     ∙ (λ i. map.insert m key
     (put_mid (start i) (copied i) (c.bytes_mut-page.ensures.bytes i) (c.copy_from_slice.ensures.after i)))
-    ∙ sym (piece_written (region_places c.args.regions.now.frame c.args.regions.now.regions c.args.region)
-    key c.args.at c.locate-key.ensures.page m c.page_mut.result.now piece
+    ∙ sym (piece_written _ _ _ c.locate-key.ensures.page m _ piece
     (omega (arith, ap length c.bytes_mut-page.ensures.bytes, c.bytes_mut-page.ensures.length))
     (omega (arith, start, size, c.min-count.ensures, c.bytes_mut-page.ensures.length))
     c.page_mut.ensures.page)

@@ -11,16 +11,15 @@ returns-then-has_columns-clause-bare c =
     let row = c.ranges.y in
     let site = c.in-Some.ensures {u = tt} in
     let bare = simp to_z-of_z at c.first_row_at.ensures.bare in
-    let found = c.first_row_at.result in
-    let is = sym (to_z-of_z w64 found (search rules)) in
-    rows_off (definitions_of c.args.screens.now.screens) c.args.blit.now c.args.id c.in-Some.site (sym site.place)
-    c.args.y (to_z w64 (of_z w64 found)) (subst (λ (z : ℤ). HasNoRow c.in-Some.site c.args.y z) is bare)
+    let is = sym (to_z-of_z w64 c.first_row_at.result (search rules)) in
+    rows_off (definitions_of c.args.screens.now.screens) c.args.blit.now _ _ (sym site.place) _ _
+    (subst (λ (z : ℤ). HasNoRow c.in-Some.site c.args.y z) is bare)
 
 pub returns-else-has_columns-clause-bare : goal.returns-else-has_columns-clause-bare
 returns-else-has_columns-clause-bare c =
     let site = c.in-Some.ensures {u = tt} in
-    rows_beside (definitions_of c.args.screens.now.screens) c.args.blit.now c.args.id c.in-Some.site (sym site.place)
-    c.args.y (to_z w64 (of_z w64 c.from-bottom.result)) (sym c.has_columns.ensures ∙ c.if-has_columns.false)
+    rows_beside (definitions_of c.args.screens.now.screens) c.args.blit.now _ _ (sym site.place) _ _
+    (sym c.has_columns.ensures ∙ c.if-has_columns.false)
 
 pub returns-then-has_columns-clause-from : goal.returns-then-has_columns-clause-from
 returns-then-has_columns-clause-from c =

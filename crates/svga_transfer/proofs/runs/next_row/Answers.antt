@@ -27,22 +27,18 @@ pub returns-then-row-bottom-clause-found : goal.returns-then-row-bottom-clause-f
 returns-then-row-bottom-clause-found c =
     let first = c.ranges.y in
     let row = to_z w64 c.loop-id.row-bits in
-    let bottom = c.args.blit.now.rect.bottom in
-    let is = same_side bottom c.from-bottom.result (search rules) (search rules) c.from-bottom.ensures in
-    let above = is_below row bottom (ap (int_lt row) (sym is) ∙ c.if-row-bottom.true) in
+    let is = same_side _ _ (search rules) (search rules) c.from-bottom.ensures in
+    let above = is_below row _ (ap (int_lt row) (sym is) ∙ c.if-row-bottom.true) in
     let from = simp to_z-of_z at c.loop-id.invariant.from in
-    let bare = simp to_z-of_z at c.loop-id.invariant.bare in
-    let all = rows_of_all (definitions_of c.args.screens.now.screens) c.args.blit.now c.loop-id.id c.args.y row row
-    c.loop-id-test.false c.loop-id.auto.id-end (≤ℤ_refl row) bare in
+    let all = rows_of_all (definitions_of c.args.screens.now.screens) c.args.blit.now _ _ row row
+    c.loop-id-test.false c.loop-id.auto.id-end (≤ℤ_refl row) (simp to_z-of_z at c.loop-id.invariant.bare) in
     (from above, above, all)
 
 pub returns-else-row-bottom-clause-none : goal.returns-else-row-bottom-clause-none
 returns-else-row-bottom-clause-none c =
     let first = c.ranges.y in
     let row = to_z w64 c.loop-id.row-bits in
-    let bottom = c.args.blit.now.rect.bottom in
-    let is = same_side bottom c.from-bottom.result (search rules) (search rules) c.from-bottom.ensures in
-    let within = not_below row bottom (ap (int_lt row) (sym is) ∙ c.if-row-bottom.false) in
-    let bare = simp to_z-of_z at c.loop-id.invariant.bare in
-    rows_of_all (definitions_of c.args.screens.now.screens) c.args.blit.now c.loop-id.id c.args.y bottom row
-    c.loop-id-test.false c.loop-id.auto.id-end within bare
+    let is = same_side _ _ (search rules) (search rules) c.from-bottom.ensures in
+    let within = not_below row _ (ap (int_lt row) (sym is) ∙ c.if-row-bottom.false) in
+    rows_of_all (definitions_of c.args.screens.now.screens) c.args.blit.now _ _ _ row c.loop-id-test.false
+    c.loop-id.auto.id-end within (simp to_z-of_z at c.loop-id.invariant.bare)

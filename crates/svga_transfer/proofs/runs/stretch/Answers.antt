@@ -9,16 +9,13 @@ returns-then-has_row c =
     let left = c.ranges.x in
     let right = c.ranges.end in
     let row = c.ranges.y in
-    let some = simp to_z-of_z at c.stretch_at.ensures.some in
-    let none = simp to_z-of_z at c.stretch_at.ensures.none in
     let site = c.in_ok-site.ensures {u = tt} in
-    next (definitions_of c.args.screens.now.screens) c.args.blit.now c.args.id c.in_ok-site.site (sym site.place)
-    c.args.x c.args.end c.args.y c.stretch_at.result site.short some none
+    next (definitions_of c.args.screens.now.screens) c.args.blit.now _ _ (sym site.place) _ _ _ _ site.short
+    (simp to_z-of_z at c.stretch_at.ensures.some) (simp to_z-of_z at c.stretch_at.ensures.none)
 
 pub returns-else-has_row : goal.returns-else-has_row
 returns-else-has_row c =
     let row = c.ranges.y in
-    let off = simp to_z-of_z at c.has_row.ensures in
     let site = c.in_ok-site.ensures {u = tt} in
-    bare_off (definitions_of c.args.screens.now.screens) c.args.blit.now c.args.id c.in_ok-site.site (sym site.place)
-    c.args.y c.args.x c.args.end (sym off ∙ c.if-has_row.false)
+    bare_off (definitions_of c.args.screens.now.screens) c.args.blit.now _ _ (sym site.place) _ _ _
+    (sym (simp to_z-of_z at c.has_row.ensures) ∙ c.if-has_row.false)

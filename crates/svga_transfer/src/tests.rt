@@ -1,1 +1,0 @@
-//! Pixels that are moved, by worked cases.
