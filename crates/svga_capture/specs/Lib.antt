@@ -1,0 +1,5 @@
+pub mod Answers
+pub mod Held
+pub mod Judged
+pub mod Openings
+pub mod Records
