@@ -14,11 +14,11 @@ use Rattle.svga_model.proofs.ValidStateLaws.{step_keys}
 use Rattle.svga_model.specs.Acts.{Act, Do}
 use Rattle.svga_model.specs.Faults.{fault_of, is_admissible}
 use Rattle.svga_model.specs.Regions.{Places}
-use Rattle.svga_model.specs.Runs.{done, is_met, run}
+use Rattle.svga_model.specs.Runs.{done, is_met, run, stopping_fault}
 use Rattle.svga_model.specs.States.{State}
 use Rattle.svga_model.specs.Steps.{step}
 use Rattle.svga_model.specs.Touches.{has_page, touched_places}
-use Rattle.svga_machine.specs.Listed.{acts_of, stopping_fault}
+use Rattle.svga_machine.specs.Listed.{lent_acts}
 use Rattle.svga_machine.specs.Touched.{HasTouched}
 use Rattle.svga_transfer.specs.Reach.{HasPages}
 
@@ -66,18 +66,18 @@ touched_there s c acts there admitted = pages_there s.memory (touched_places s.k
 
 -- the same of a list of commands, at the next of those that are left
 pub next_there : (commands : List CommandRef) (n : ℕ) (d : CommandRef) (s : State) → n < length commands
-    → HasMet s (acts_of (drop n commands)) → HasTouched s.kept s.memory (command_of (slice_index_or commands n d))
-next_there commands n d s l there = touched_there s (command_of (slice_index_or commands n d)) (acts_of (drop (n + 1) commands))
-    (subst (λ left. HasMet s (acts_of left)) (drop_more commands n d l) there)
+    → HasMet s (lent_acts (drop n commands)) → HasTouched s.kept s.memory (command_of (slice_index_or commands n d))
+next_there commands n d s l there = touched_there s (command_of (slice_index_or commands n d)) (lent_acts (drop (n + 1) commands))
+    (subst (λ left. HasMet s (lent_acts left)) (drop_more commands n d l) there)
 
 -- where it was run
 pub next_run : (commands : List CommandRef) (n : ℕ) (d : CommandRef) (s t u : State) → n < length commands
-    → IsLeft (acts_of commands) (acts_of (drop n commands)) s t n
+    → IsLeft (lent_acts commands) (lent_acts (drop n commands)) s t n
     → None ≡ fault_of t (Do (command_of (slice_index_or commands n d)))
     → u ≡ step t (Do (command_of (slice_index_or commands n d)))
-    → IsLeft (acts_of commands) (acts_of (drop (n + 1) commands)) s u (n + 1)
+    → IsLeft (lent_acts commands) (lent_acts (drop (n + 1) commands)) s u (n + 1)
 next_run commands n d s t u l is none same =
     let act : Act = Do (command_of (slice_index_or commands n d)) in
-    subst (λ w. IsLeft (acts_of commands) (acts_of (drop (n + 1) commands)) s w (n + 1)) (sym same)
-    (left_more (acts_of commands) (acts_of (drop (n + 1) commands)) act s t n
-    (subst (λ left. IsLeft (acts_of commands) (acts_of left) s t n) (drop_more commands n d l) is) (sym none))
+    subst (λ w. IsLeft (lent_acts commands) (lent_acts (drop (n + 1) commands)) s w (n + 1)) (sym same)
+    (left_more (lent_acts commands) (lent_acts (drop (n + 1) commands)) act s t n
+    (subst (λ left. IsLeft (lent_acts commands) (lent_acts left) s t n) (drop_more commands n d l) is) (sym none))

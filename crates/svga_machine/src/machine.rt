@@ -165,6 +165,21 @@ impl Machine {
         &self.shape
     }
 
+    /// The limits of the device.
+    pub fn limits(&self) -> Limits
+        ensures limits { result ≡ self.now.kept.limits }
+        ensures allowed { AreLimits result }
+    {
+        self.limits
+    }
+
+    /// The last fence, or that of the opening.
+    pub fn fence(&self) -> u32
+        ensures { result ≡ self.now.kept.fence }
+    {
+        self.fence
+    }
+
     /// The screens.
     pub fn screens(&self) -> &Screens
         ensures { result.now ≡ record { budget = self.now.kept.limits.budget; screens = self.now.kept.screens } }

@@ -4,8 +4,8 @@ ghost use Rattle.svga_cmd.specs.Lent.{command_of};
 ghost use Rattle.svga_cmd.specs.Pages.{HasPage};
 ghost use Rattle.svga_cmd.specs.WellFormed.{IsWellFormed};
 ghost use Rattle.svga_cmd.specs.declared.page.PageKey.{PageKey};
-ghost use Rattle.svga_model.specs.Runs.{done, is_met, run};
-ghost use Rattle.svga_machine.specs.Listed.{acts_of, stopping_fault};
+ghost use Rattle.svga_model.specs.Runs.{done, is_met, run, stopping_fault};
+ghost use Rattle.svga_machine.specs.Listed.{lent_acts};
 ghost use Rattle.svga_machine.specs.MachineSet.{state_with};
 
 use crate::machine::Machine;
@@ -25,11 +25,11 @@ impl Machine {
     /// that stand in a region at some point of the run.
     pub fn run_all<P: PageStore>(&mut self, store: &mut P, commands: &[CommandRef<'_>]) -> Ran
         requires well_formed { All (λ c. IsWellFormed (command_of c)) commands.now }
-        requires there { (key : PageKey) → is_met (state_with self.old (P.pages store.old)) (acts_of commands.now) key ≡ true → HasPage (P.pages store.old) key }
-        ensures run { state_with self.new (P.pages store.new) ≡ run (state_with self.old (P.pages store.old)) (acts_of commands.now) }
-        ensures count { result.count ≡ done (state_with self.old (P.pages store.old)) (acts_of commands.now) }
+        requires there { (key : PageKey) → is_met (state_with self.old (P.pages store.old)) (lent_acts commands.now) key ≡ true → HasPage (P.pages store.old) key }
+        ensures run { state_with self.new (P.pages store.new) ≡ run (state_with self.old (P.pages store.old)) (lent_acts commands.now) }
+        ensures count { result.count ≡ done (state_with self.old (P.pages store.old)) (lent_acts commands.now) }
         // The fault is that of the command behind those that ran.
-        ensures fault { result.fault ≡ stopping_fault (state_with self.old (P.pages store.old)) (acts_of commands.now) }
+        ensures fault { result.fault ≡ stopping_fault (state_with self.old (P.pages store.old)) (lent_acts commands.now) }
         // A chain that is begun stays so.
         ensures chain { self.new.chain ≡ self.old.chain }
         ensures rest { P.rest store.new ≡ P.rest store.old }

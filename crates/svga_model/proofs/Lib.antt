@@ -17,8 +17,10 @@ pub mod PaintedMembers
 pub mod PaintedPixels
 pub mod PaintedPlaces
 pub mod PaintedTests
+pub mod PixelSteps
 pub mod PixelsNone
 pub mod PutLaws
+pub mod ReplayLaws
 pub mod RunLaws
 pub mod ShapeLaws
 pub mod StandingLaws

@@ -78,6 +78,12 @@ module _ (definitions : ℕ → Option ScreenDef) where
       → IsPixel (covers definitions b.screen) g b p
   blit_pixel_is = λ g b. in_pixels (covers definitions b.screen) g b
 
+  -- and where a place of the rectangle covers one there is a pixel of the blit
+  pub blit_pixel_has : (g : Gmrfb) (b : Blit) (X Y : ℤ) (s : ScreenPixel) → is_in_rect b.rect X Y ≡ true
+      → IsIn s (covers definitions b.screen X Y)
+      → IsIn (record { x = X; y = Y; offset = blit_offset g b X Y }) (blit_pixels definitions g b)
+  blit_pixel_has g b = pixels_has (covers definitions b.screen) g b
+
   module _ (bytes : ℕ → ℕ) (g : Gmrfb) (b : Blit) where
     -- the colour that a blit takes for place (X, Y), and the one that it gives to a pixel of a screen there
     abbrev source_colour : ℤ → ℕ

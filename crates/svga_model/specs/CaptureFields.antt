@@ -132,19 +132,22 @@ region_records bytes = records_from bytes (region_count bytes) (36 + ring_end by
 abbrev pub unmapped_word : ℕ
 unmapped_word = 0xFFFFFFFF
 
--- the words of a region's places
-abbrev pub place_fields : List ℕ → RegionRecord → List Field
-place_fields bytes r =
-    map_list (λ k. word_field bytes (r.at + 8 + 4 * k) (λ n. nat_lt n (limits_in bytes).pages || n == unmapped_word)) (range_with_len 0 r.count)
+-- the word of place k, where that of place 0 stands at this byte
+abbrev pub place_field : List ℕ → ℕ → ℕ → Field
+place_field bytes at k = word_field bytes (at + 4 * k) (λ n. nat_lt n (limits_in bytes).pages || n == unmapped_word)
 
--- The fields of these regions' records. The regions before them have `total` places, and the last of those has the id
--- `last`, if there is one.
-abbrev pub region_fields : List ℕ → ℕ → Option ℕ → List RegionRecord → List Field
-region_fields bytes total last [] = []
-region_fields bytes total last (r ∷ rs) =
+-- The fields of a region's record. The regions before it have `total` places, and the last of those has the id `last`, if
+-- there is one.
+abbrev pub record_fields : List ℕ → ℕ → Option ℕ → RegionRecord → List Field
+record_fields bytes total last r =
     ordered_field bytes r.at last (λ n. nat_le n 4095)
     ∷ word_field bytes (r.at + 4) (λ n. nat_le 1 n && nat_le (total + n) 65536)
-    ∷ place_fields bytes r ++ region_fields bytes (total + r.count) (Some r.id) rs
+    ∷ map_list (place_field bytes (r.at + 8)) (range_with_len 0 r.count)
+
+-- those of these regions' records, behind such regions
+abbrev pub region_fields : List ℕ → ℕ → Option ℕ → List RegionRecord → List Field
+region_fields bytes total last [] = []
+region_fields bytes total last (r ∷ rs) = record_fields bytes total last r ++ region_fields bytes (total + r.count) (Some r.id) rs
 
 -- where the pages' records begin, and where record j does: a key, and then 4,096 bytes
 abbrev pub pages_at : List ℕ → ℕ

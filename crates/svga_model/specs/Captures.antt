@@ -11,7 +11,7 @@ use Rattle.svga_model.specs.Addresses.{address, dwords_between}
 use Rattle.svga_model.specs.CaptureFields.{Flaw, Long, RegionRecord, capture_end, capture_fields, fifo_word, first_flaw, key_of_word, limits_in, min_in, next_in, page_record_at, page_count, region_records, ring_end, stop_in, unmapped_word}
 use Rattle.svga_model.specs.Memories.{with_page}
 use Rattle.svga_model.specs.Regions.{Places, Regions}
-use Rattle.svga_model.specs.States.{Kept, State, opening_memory}
+use Rattle.svga_model.specs.States.{State, opening_memory}
 use Rattle.svga_model.specs.Walks.{little_word}
 
 -- the ring's ends, the limits, the state before the words, and the words that were sent and not yet taken

@@ -21,6 +21,7 @@ pub mod Progress
 pub mod RefusedWords
 pub mod RegionBytes
 pub mod Regions
+pub mod Replays
 pub mod Runs
 pub mod Screens
 pub mod Sentences

@@ -1,11 +1,12 @@
 -- Acts one after another, and the pages that they can be about.
-use Rattle.std.specs.Prelude.{ℕ, suc, List, [], ◌∷◌, Bool, false, ◌&&◌, ◌||◌, if◌then◌else◌, unwrap_or}
+use Rattle.std.specs.Prelude.{ℕ, suc, List, [], ◌∷◌, Bool, false, ◌&&◌, ◌||◌, if◌then◌else◌, Option, unwrap_or, option_and_then}
 use Rattle.std.specs.FinMap as map
-use Rattle.std.specs.List.{list_any, range_with_len}
+use Rattle.std.specs.List.{list_any, range_with_len, slice_get}
 use Rattle.svga_cmd.specs.Pages.{Memory}
+use Rattle.svga_cmd.specs.declared.fault.Fault.{Fault}
 use Rattle.svga_cmd.specs.declared.page.PageKey.{PageKey}
 use Rattle.svga_model.specs.Acts.{Act, Do, Put, Chain}
-use Rattle.svga_model.specs.Faults.{is_admissible}
+use Rattle.svga_model.specs.Faults.{fault_of, is_admissible}
 use Rattle.svga_model.specs.Memories.{with_page}
 use Rattle.svga_model.specs.Regions.{defined_places, frame_places}
 use Rattle.svga_model.specs.States.{Kept, State, frame_pages}
@@ -21,6 +22,10 @@ run s (act ∷ acts) = if is_admissible s act then run (step s act) acts else s
 abbrev pub done : State → List Act → ℕ
 done s [] = 0
 done s (act ∷ acts) = if is_admissible s act then suc (done (step s act) acts) else 0
+
+-- the fault of the act behind those that are run, at which the run stops; none where it runs them all
+abbrev pub stopping_fault : State → List Act → Option Fault
+stopping_fault s acts = option_and_then (fault_of (run s acts)) (slice_get acts (done s acts))
 
 -- the page stands in a region
 unfoldable pub in_regions : Kept → PageKey → Bool

@@ -27,6 +27,6 @@ pub use pixels::{
     narrowed_colour, no_pixels, painted_pixels, pixels_at_a_corner, pixels_of_a_far_screen,
     pixels_of_two_screens,
 };
-pub use runs::{run_in_parts, run_over_only};
+pub use runs::{replay_within_regions, run_in_parts, run_over_only};
 pub use states::{put_alone, valid_states};
 pub use touches::{puts_commute, touched_pages};

@@ -1,9 +1,12 @@
 //! What holds of runs. The functions do nothing: their contracts are the laws.
 ghost use Rattle.std.specs.Prelude.{◌≡◌, ◌⊎◌, ◌+◌, ◌<◌, ◌≤◌, ◌++◌, ℕ, List, [], ◌∷◌, length, take, Bool, true, false};
 ghost use Rattle.svga_cmd.specs.Pages.{page_at};
+ghost use Rattle.svga_cmd.specs.declared.command.Command.{Command};
 ghost use Rattle.svga_cmd.specs.declared.page.PageKey.{PageKey};
 ghost use Rattle.svga_model.specs.Acts.{Act};
+ghost use Rattle.svga_model.specs.Endings.{End};
 ghost use Rattle.svga_model.specs.Faults.{IsAdmissible, fault_of};
+ghost use Rattle.svga_model.specs.Replays.{IsWithinRegions};
 ghost use Rattle.svga_model.specs.Runs.{done, in_regions, is_met, on_walk, only, puts, run};
 ghost use Rattle.svga_model.specs.States.{State};
 ghost use Rattle.svga_model.specs.Touches.{Touches};
@@ -36,4 +39,9 @@ pub fn run_over_only()
     // The pages that are kept end with the same bytes. All others change by the run's Puts alone.
     ensures pages { (s : State) (acts : List Act) (key : PageKey) → is_met s acts key ≡ true → page_at (run (only s acts) acts).memory key ≡ page_at (run s acts).memory key }
     ensures others { (s : State) (acts : List Act) (key : PageKey) → is_met s acts key ≡ false → page_at (run s acts).memory key ≡ page_at (puts s.memory (take (done s acts) acts)) key }
+{}
+
+/// Neither does a replay.
+pub fn replay_within_regions()
+    ensures { (s : State) (cs : List Command) (end : End) → IsWithinRegions s cs end }
 {}

@@ -4,8 +4,8 @@ use Rattle.std.specs.List.{list_any, range_with_len}
 use Rattle.svga_cmd.specs.declared.blit.Blit.{Blit}
 use Rattle.svga_cmd.specs.declared.gmrfb.Gmrfb.{Gmrfb}
 use Rattle.svga_cmd.specs.declared.screen.ScreenDef.{ScreenDef}
-use Rattle.svga_model.proofs.PaintedMembers.{filter_map_has, flat_map_has, in_filter_map, int_range_has}
-use Rattle.svga_model.proofs.PaintedPixels.{IsPixel, blit_pixel_is}
+use Rattle.svga_model.proofs.PaintedMembers.{in_filter_map}
+use Rattle.svga_model.proofs.PaintedPixels.{IsPixel, blit_pixel_has, blit_pixel_is}
 use Rattle.svga_model.proofs.PaintedPlaces.{IsAt, is_covered, on_screen}
 use Rattle.svga_model.proofs.PaintedTests.{all_four, both}
 use Rattle.svga_model.specs.BlitFaults.{some_byte}
@@ -14,11 +14,6 @@ use Rattle.svga_model.specs.Colours.{pixel_length}
 use Rattle.svga_model.specs.Members.{IsIn}
 use Rattle.svga_shape.proofs.SpanMembers.{item_passes, number_passes, same_tests, some_item, some_number}
 use Rattle.svga_shape.specs.Spans.{area_passes, pixel_passes, row_passes, screen_passes, some_in_span}
-
--- where a place covers some pixel there is a pixel of the blit
-there : (ss : List ScreenPixel) (s : ScreenPixel) (p : BlitPixel) → IsIn s ss → pixel_there ss p ≡ Some p
-there [] s p h = absurd h
-there (r ∷ ss) s p h = refl
 
 module _ (test : ℤ → Bool) (g : Gmrfb) (b : Blit) where
   -- a pixel of the blit that lies on a screen is one of the screen's part
@@ -91,24 +86,11 @@ module _ (test : ℤ → Bool) (g : Gmrfb) (b : Blit) where
     abbrev pixel_at : ℤ → ℤ → BlitPixel
     pixel_at X Y = record { x = X; y = Y; offset = blit_offset g b X Y }
 
-    abbrev optional : ℤ → ℤ → Option BlitPixel
-    optional Y X = pixel_there (covers definitions b.screen X Y) (pixel_at X Y)
-
-    abbrev row : ℤ → List BlitPixel
-    row Y = filter_map (optional Y) (int_range b.rect.left b.rect.right)
-
     -- a pixel that lies on a screen, in the blit's rectangle, is one of the blit
     is_pixel : (X Y : ℤ) (q : ScreenPixel) (d : ScreenDef) → q.screen < 16 → definitions q.screen ≡ Some d
         → IsAt d b.screen X Y q → is_in_rect b.rect X Y ≡ true → IsIn (pixel_at X Y) (blit_pixels definitions g b)
     is_pixel X Y q d low is at inside =
-        let r = b.rect in
-        let sides = all_four (int_le r.left X) (int_lt X r.right) (int_le r.top Y) (int_lt Y r.bottom) inside in
-        let x = int_range_has r.left r.right X sides.0 sides.1 in
-        let y = int_range_has r.top r.bottom Y sides.2 sides.3 in
-        let on = is_covered definitions b.screen X Y q d low is at in
-        let pixel = there (covers definitions b.screen X Y) q (pixel_at X Y) on in
-        let in_row = filter_map_has (optional Y) (int_range r.left r.right) X (pixel_at X Y) x pixel in
-        flat_map_has row (int_range r.top r.bottom) Y (pixel_at X Y) y in_row
+        blit_pixel_has definitions g b X Y q inside (is_covered definitions b.screen X Y q d low is at)
 
     blit_there : on_screens ≡ true → some_byte definitions g b test ≡ true
     unfolding some_byte some_in_span

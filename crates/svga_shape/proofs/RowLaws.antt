@@ -11,35 +11,13 @@ use Rattle.svga_cmd.specs.declared.format.Format.{Format}
 use Rattle.svga_cmd.specs.declared.format.Format.TheVariants.{Bgrx32, Bgr24, Rgb565, Rgb555}
 use Rattle.svga_cmd.specs.declared.gmrfb.Gmrfb.{Gmrfb}
 use Rattle.svga_model.proofs.PaintedTests.{both}
+use Rattle.svga_model.proofs.PixelSteps.{offset_steps, some_bytes}
 use Rattle.svga_model.specs.BlitPixels.{blit_offset, is_in_rect}
 use Rattle.svga_model.specs.Colours.{pixel_length}
 use Rattle.svga_screen.specs.Clips.{IsClip}
 use Rattle.svga_screen.specs.declared.area.Area.{Area}
 use Rattle.svga_shape.proofs.SpanMembers.{byte_passes, number_passes, same_tests, some_byte_of, some_number}
 use Rattle.svga_shape.specs.Spans.{area_passes, pixel_passes, row_passes, some_in_span}
-
--- so many steps more are as many lengths more
-scaled : (z : ℤ) (n u : ℕ) → (z +ℤ pos u) *ℤ pos n ≡ z *ℤ pos n +ℤ pos (u * n)
-scaled z n zero =
-    ap (λ w. w *ℤ pos n) (+ℤ_idr z) ∙ sym (+ℤ_idr (z *ℤ pos n)) ∙ ap (λ k. z *ℤ pos n +ℤ pos k) (sym (zero-mul n))
-scaled z n (suc u) =
-    let one_more : z +ℤ pos (suc u) ≡ suc_ℤ (z +ℤ pos u) = +ℤ-suc_ℤ z (pos u) in
-    ap (λ w. w *ℤ pos n) one_more ∙ suc_ℤ-*ℤ (z +ℤ pos u) (pos n) ∙ ap (λ w. w +ℤ pos n) (scaled z n u)
-    ∙ further (z *ℤ pos n) (u * n) n ∙ ap (λ k. z *ℤ pos n +ℤ pos k) (sym (suc-mul u n))
-  where
-    further : (w : ℤ) (a b : ℕ) → w +ℤ pos a +ℤ pos b ≡ w +ℤ pos (a + b)
-    further w a b = omega (arith, ints)
-
--- the pixel so many steps to the right begins as many lengths further
-moved : (g : Gmrfb) (b : Blit) (X Y : ℤ) (left u : ℕ)
-    → blit_offset g b (X +ℤ pos (left + u)) Y ≡ blit_offset g b (X +ℤ pos left) Y +ℤ pos (u * pixel_length g.format)
-moved g b X Y left u =
-    let column = b.point.x +ℤ (X +ℤ pos left -ℤ b.rect.left) in
-    let row = pos g.offset +ℤ ((b.point.y +ℤ (Y -ℤ b.rect.top)) *ℤ pos g.pitch) in
-    let n = pixel_length g.format in
-    let further : b.point.x +ℤ (X +ℤ pos (left + u) -ℤ b.rect.left) ≡ column +ℤ pos u = omega (arith, ints) in
-    ap (λ z. row +ℤ z *ℤ pos n) further ∙ ap (λ z. row +ℤ z) (scaled column n u)
-    ∙ omega (arith, ints)
 
 -- A row of pixels of `count` bytes, of which `wide` from `left` on are inside: where each pixel begins behind the one
 -- before it, the bytes of the pixels inside are one span.
@@ -86,12 +64,9 @@ module _ (test : ℤ → Bool) (inside : ℕ → Bool) (start : ℕ → ℤ) (co
   row_span = same_tests (list_any passes (range_with_len 0 width)) (some_in_span test (start left) (wide * count))
       row_there row_back
 
--- a pixel has bytes
-some_bytes : (f : Format) → 0 < pixel_length f
-some_bytes Bgrx32 = omega arith
-some_bytes Bgr24 = omega arith
-some_bytes Rgb565 = omega arith
-some_bytes Rgb555 = omega arith
+-- so many steps, and some more
+further : (z : ℤ) (a b : ℕ) → z +ℤ pos (a + b) ≡ z +ℤ pos a +ℤ pos b
+further z a b = omega (arith, ints)
 
 -- a test beside one that holds
 and_true : (a : Bool) → (a && true) ≡ a
@@ -119,7 +94,7 @@ module _ (test : ℤ → Bool) (g : Gmrfb) (b : Blit) (X Y : ℤ) (width height 
   row_is v low high =
       row_span test (λ u. is_in_rect b.rect (X +ℤ pos u) (Y +ℤ pos v)) (λ u. blit_offset g b (X +ℤ pos u) (Y +ℤ pos v))
       (pixel_length g.format) width area.left area.width (some_bytes g.format) clip.wide
-      (moved g b X (Y +ℤ pos v) area.left) columns
+      (λ u. ap (λ z. blit_offset g b z (Y +ℤ pos v)) (further X area.left u) ∙ offset_steps g b (X +ℤ pos area.left) (Y +ℤ pos v) u) columns
     where
       columns : (u : ℕ) → u < width → is_in_rect b.rect (X +ℤ pos u) (Y +ℤ pos v) ≡ in_columns u
       columns u l =

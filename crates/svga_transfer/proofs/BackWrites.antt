@@ -23,7 +23,7 @@ use Rattle.svga_transfer.specs.Runs.{IsRun, first_of}
 use Rattle.svga_transfer.specs.declared.runs.Run.{Run}
 use Rattle.svga_transfer.proofs.BackRanges.{gap_steps}
 use Rattle.svga_transfer.proofs.ByteWrites.{writes_from-append}
-use Rattle.svga_transfer.proofs.PixelSteps.{pixel_begins}
+use Rattle.svga_model.proofs.PixelSteps.{pixel_begins}
 
 -- a colour has the bytes of a pixel
 length-bytes_of : (f : Format) (colour : ℕ) → length (bytes_of f colour) ≡ pixel_length f

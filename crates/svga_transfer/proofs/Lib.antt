@@ -13,7 +13,6 @@ pub mod PaintBytes
 pub mod PaintRows
 pub mod PaintScreen
 pub mod PaintScreens
-pub mod PixelSteps
 pub mod Reached
 pub mod RunLists
 pub mod StretchJoins

@@ -22,7 +22,7 @@ use Rattle.svga_screen.specs.Clips.{is_inside}
 use Rattle.svga_screen.specs.declared.area.Area.{Area}
 use Rattle.svga_transfer.proofs.AreaLaws.{some_under}
 use Rattle.svga_transfer.proofs.PaintRows.{painted_more, repainted_none, repainted_same}
-use Rattle.svga_transfer.proofs.PixelSteps.{pixel_begins}
+use Rattle.svga_model.proofs.PixelSteps.{pixel_begins}
 use Rattle.svga_transfer.proofs.Reached.{IsReached, byte_reached, row_there, row_within}
 use Rattle.svga_transfer.specs.Areas.{IsPainted}
 use Rattle.svga_transfer.specs.Painting.{above, colours_from}

@@ -12,8 +12,8 @@ use Rattle.svga_cmd.specs.declared.blit.Blit.{Blit}
 use Rattle.svga_cmd.specs.declared.gmrfb.Gmrfb.{Gmrfb}
 use Rattle.svga_cmd.specs.declared.page.PageKey.{PageKey}
 use Rattle.svga_cmd.specs.declared.screen.ScreenDef.{ScreenDef}
-use Rattle.svga_model.proofs.PaintedMembers.{filter_map_has, flat_map_has, int_range_has, range_has}
-use Rattle.svga_model.proofs.PaintedTests.{all_four}
+use Rattle.svga_model.proofs.PaintedMembers.{range_has}
+use Rattle.svga_model.proofs.PaintedPixels.{blit_pixel_has}
 use Rattle.svga_model.specs.BlitFaults.{is_on_unmapped, is_outside, some_byte}
 use Rattle.svga_model.specs.BlitPixels.{BlitPixel, ScreenPixel, blit_offset, blit_pixels, covers, int_range, is_in_rect, pixel_there}
 use Rattle.svga_model.specs.Colours.{pixel_length}
@@ -21,13 +21,8 @@ use Rattle.svga_model.specs.Members.{IsIn}
 use Rattle.svga_model.specs.RegionBytes.{is_beyond, page_of_byte}
 use Rattle.svga_model.specs.Regions.{Places}
 use Rattle.svga_transfer.proofs.ListLaws.{none_passes}
-use Rattle.svga_transfer.proofs.PixelSteps.{offset_steps, some_bytes}
+use Rattle.svga_model.proofs.PixelSteps.{offset_steps, some_bytes}
 use Rattle.svga_transfer.specs.Reach.{AreMapped, HasBytes, HasPages}
-
--- where a place covers some pixel there is a pixel of the blit
-there : (ss : List ScreenPixel) (s : ScreenPixel) (p : BlitPixel) → IsIn s ss → pixel_there ss p ≡ Some p
-there [] s p h = absurd h
-there (r ∷ ss) s p h = refl
 
 -- the number of a byte of the region, on a mapped place
 pub record IsReached (places : Places) (z : ℤ) : Type 0 where
@@ -38,35 +33,17 @@ module _ (definitions : ℕ → Option ScreenDef) (g : Gmrfb) (b : Blit) where
   abbrev pixel_at : ℤ → ℤ → BlitPixel
   pixel_at X Y = record { x = X; y = Y; offset = blit_offset g b X Y }
 
-  abbrev optional : ℤ → ℤ → Option BlitPixel
-  optional Y X = pixel_there (covers definitions b.screen X Y) (pixel_at X Y)
-
-  abbrev row : ℤ → List BlitPixel
-  row Y = filter_map (optional Y) (int_range b.rect.left b.rect.right)
-
   abbrev passes : (ℤ → Bool) → BlitPixel → Bool
   passes test p = list_any (λ j. test (p.offset +ℤ pos j)) (range_with_len 0 (pixel_length g.format))
 
-  -- a place of the rectangle that covers a pixel of a screen has a pixel of the blit
-  is_pixel : (X Y : ℤ) (s : ScreenPixel) → is_in_rect b.rect X Y ≡ true → IsIn s (covers definitions b.screen X Y)
-      → IsIn (pixel_at X Y) (blit_pixels definitions g b)
-  is_pixel X Y s inside covered =
-      let r = b.rect in
-      let sides = all_four (int_le r.left X) (int_lt X r.right) (int_le r.top Y) (int_lt Y r.bottom) inside in
-      let x = int_range_has r.left r.right X sides.0 sides.1 in
-      let y = int_range_has r.top r.bottom Y sides.2 sides.3 in
-      let pixel = there (covers definitions b.screen X Y) s (pixel_at X Y) covered in
-      let in_row = filter_map_has (optional Y) (int_range r.left r.right) X (pixel_at X Y) x pixel in
-      flat_map_has row (int_range r.top r.bottom) Y (pixel_at X Y) y in_row
-
-  -- and no byte of it passes a test that no byte of the blit does
+  -- no byte of a pixel of the blit passes a test that no byte of the blit does
   no_byte : (test : ℤ → Bool) → some_byte definitions g b test ≡ false → (X Y : ℤ) (s : ScreenPixel)
       → is_in_rect b.rect X Y ≡ true → IsIn s (covers definitions b.screen X Y)
       → (j : ℕ) → j < pixel_length g.format → test (blit_offset g b X Y +ℤ pos j) ≡ false
   unfolding some_byte
   no_byte test none X Y s inside covered j l =
       let of_pixel = none_passes (passes test) (blit_pixels definitions g b) (pixel_at X Y) none
-      (is_pixel X Y s inside covered) in
+      (blit_pixel_has definitions g b X Y s inside covered) in
       none_passes (λ j. test (blit_offset g b X Y +ℤ pos j)) (range_with_len 0 (pixel_length g.format)) j of_pixel
       (range_has 0 (pixel_length g.format) j (omega arith) (omega arith))
 
