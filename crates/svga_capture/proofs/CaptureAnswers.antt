@@ -17,6 +17,11 @@ good_answer bytes items same good = ap (λ (o : Option (ℕ × Flaw)). captured 
 pub good_ok : (bytes : List ℕ) → flaw_in bytes ≡ None → IsOk (capture_of bytes)
 good_ok bytes good = subst IsOk (sym (good_answer bytes bytes refl good)) refl
 
+-- what is seen of bytes with no flaw is a capture
+pub seen_answer : (view : Capture) (bytes : List ℕ) → held bytes ≡ view → flaw_in bytes ≡ None
+    → (bytes : List ℕ) × (capture_of bytes ≡ Ok view)
+seen_answer view bytes seen good = (bytes, good_answer bytes bytes refl good ∙ ap (λ (c : Capture). Ok c) seen)
+
 -- where it is wrong
 told_answer : (o : Option (ℕ × Flaw)) (c : Capture) (w : Wrong) → Some w ≡ told o → (flaw : Flaw) × (captured o c ≡ Err (w.place, flaw)) × (w.cause ≡ cause_of flaw)
 told_answer None c w e = absurd (cc e)

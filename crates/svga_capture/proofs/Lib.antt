@@ -7,6 +7,10 @@ pub mod OpeningGood
 pub mod OpeningPages
 pub mod OpeningPlaces
 pub mod OpeningRegions
+pub mod OpeningWhole
 pub mod PageLaws
 pub mod PageLimits
 pub mod RegionLaws
+pub mod ReplayEnds
+pub mod RunEnds
+pub mod RunningLaws

@@ -6,11 +6,12 @@ use Rattle.std.proofs.lemmas.List.Sums.{sum_by-cons}
 use Rattle.std.specs.Cmp.{nat_cmp_total}
 use Rattle.std.specs.FinMap as map
 use Rattle.std.specs.FinMap.{nat_cmp-IsAntisymmetric, get-empty}
+use Rattle.std.specs.List.{range_with_len}
 use Rattle.std.specs.Ordering.{nat_cmp}
 use Rattle.svga_cmd.proofs.Maps.{get_other, get_same, insert_comm}
 use Rattle.svga_model.proofs.ValidRegions.{defined_small, place_count-changed, place_count-empty}
 use Rattle.svga_model.proofs.ValidRules.{both_true}
-use Rattle.svga_model.specs.CaptureFields.{RegionRecord, first_flaw, is_above, limits_in, pages_at, place_fields, record_at, record_size, records_from, region_count, region_fields, ring_end, unmapped_word, word_field}
+use Rattle.svga_model.specs.CaptureFields.{RegionRecord, first_flaw, is_above, limits_in, pages_at, place_field, record_at, record_size, records_from, region_count, region_fields, ring_end, unmapped_word, word_field}
 use Rattle.svga_model.specs.Captures.{listed_places, listed_regions, place_of_word}
 use Rattle.svga_model.specs.Regions.{Places, Regions, place_count, region_length}
 use Rattle.svga_model.specs.States.{Kept, State, with_regions}
@@ -51,9 +52,9 @@ first_record bytes n at total last good =
     let r : RegionRecord = record_at bytes at in
     let later = region_fields bytes (total + r.count) (Some r.id) (records_from bytes n (behind bytes at)) in
     let number = word_field bytes (at + 4) (λ n. nat_le 1 n && nat_le (total + n) 65536) in
-    let first = first_good bytes _ (number ∷ place_fields bytes r ++ later) good in
-    let second = first_good bytes number (place_fields bytes r ++ later) first.1 in
-    let parts = lists_good bytes (place_fields bytes r) later second.1 in
+    let first = first_good bytes _ (number ∷ map_list (place_field bytes (r.at + 8)) (range_with_len 0 r.count) ++ later) good in
+    let second = first_good bytes number (map_list (place_field bytes (r.at + 8)) (range_with_len 0 r.count) ++ later) first.1 in
+    let parts = lists_good bytes (map_list (place_field bytes (r.at + 8)) (range_with_len 0 r.count)) later second.1 in
     let id = ordered_good bytes at last (λ n. nat_le n 4095) first.0 in
     let count = both_true (nat_le 1 r.count) (nat_le (total + r.count) 65536)
     (word_good bytes (at + 4) (λ n. nat_le 1 n && nat_le (total + n) 65536) second.0).1 in

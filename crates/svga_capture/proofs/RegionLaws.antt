@@ -9,7 +9,7 @@ use Rattle.std.specs.List.{range_with_len}
 use Rattle.std.specs.Option.{option_or}
 use Rattle.std.specs.Result.{result_err}
 use Rattle.svga_capture.specs.Judged.{told}
-use Rattle.svga_capture.specs.Records.{place_field, record_fields}
+use Rattle.svga_model.specs.CaptureFields.{place_field, record_fields}
 use Rattle.svga_capture.specs.declared.fault.Wrong.{Wrong}
 use Rattle.svga_model.specs.CaptureFields.{Field, Flaw, Short, first_flaw, flaw_of, fifo_fields, region_fields, word_field}
 use Rattle.svga_model.specs.CaptureFields.{record_at, record_size, records_from, region_count, region_records}

@@ -2,4 +2,5 @@ pub mod Answers
 pub mod Held
 pub mod Judged
 pub mod Openings
-pub mod Records
+pub mod Replayed
+pub mod Running

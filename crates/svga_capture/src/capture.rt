@@ -1,9 +1,11 @@
 //! Captures, and how they are read.
-ghost use Rattle.std.specs.Prelude.{IfOk, ◌≡◌, ◌+◌, ◌/◌, ◌<◌, ◌≤◌, None, length, slice_index};
+ghost use Rattle.std.specs.Prelude.{IfOk, ◌≡◌, ℕ, ◌+◌, ◌/◌, ◌<◌, ◌≤◌, List, None, Ok, length, slice_index};
 ghost use Rattle.std.specs.Result.{result_err};
 ghost use Rattle.svga_capture.specs.Answers.{IsAnswer};
 ghost use Rattle.svga_capture.specs.Judged.{told};
+ghost use Rattle.svga_machine.specs.Displays.{IsWholeState};
 ghost use Rattle.svga_machine.specs.MachineSet.{state_with};
+ghost use Rattle.svga_model.specs.Accepted.{AreWords};
 ghost use Rattle.svga_model.specs.Addresses.{address, dwords_between};
 ghost use Rattle.svga_model.specs.CaptureFields.{limits_in, min_in, next_in, ring_end, stop_in};
 ghost use Rattle.svga_model.specs.Captures.{capture_of, fence_in, flaw_in, waiting};
@@ -139,14 +141,21 @@ fn pixel_budget(bytes: &[u8]) -> u32
 impl Capture {
     /// A machine and pages in the state before the words.
     pub fn opening(&self, alloc: Global) -> Result<(Machine, MemPages), AllocError>
-        ensures { IfOk result (λ opened. state_with opened.0 opened.1 ≡ self.now.opening) }
+        ensures opened { IfOk result (λ opened. state_with opened.0 opened.1 ≡ self.now.opening) }
+        ensures whole { IfOk result (λ opened. IsWholeState self.now.limits (state_with opened.0 opened.1)) }
+        // Whoever opens it learns that its words are of 32 bits.
+        ensures numbers { IfOk result (λ _. AreWords self.now.words) }
+        // No chain is begun on the machine.
+        ensures chain { IfOk result (λ opened. opened.0.chain ≡ None) }
     {
         opening_of(alloc, &self.bytes)
     }
 
     /// How many words wait from STOP to NEXT_CMD.
     pub fn word_count(&self) -> u32
-        ensures { result ≡ length self.now.words }
+        ensures count { result ≡ length self.now.words }
+        // Whoever asks for the words learns that they are those of a capture.
+        ensures held { (bytes : List ℕ) × (capture_of bytes ≡ Ok self.now) }
     {
         waiting_words(&self.bytes)
     }

@@ -11,9 +11,11 @@ mod header;
 mod opening;
 mod pages;
 mod regions;
+mod replaying;
 
 pub use capture::{Capture, read_capture};
 pub use fault::{CaptureCause, CaptureFault};
+pub use replaying::{ReplayEnd, Replayed, replay};
 
 #[cfg(test)]
 mod tests;

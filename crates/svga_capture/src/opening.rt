@@ -5,11 +5,13 @@ ghost use Rattle.svga_cmd.specs.Lent.{command_of};
 ghost use Rattle.svga_cmd.specs.Limits.{AreLimits};
 ghost use Rattle.svga_cmd.specs.Pages.{HasPage, IsZeroMemoryOf};
 ghost use Rattle.svga_cmd.specs.WellFormed.{IsWellFormed};
+ghost use Rattle.svga_machine.specs.Displays.{IsWholeState};
 ghost use Rattle.svga_machine.specs.MachineSet.{state_with};
 ghost use Rattle.svga_machine.specs.Touched.{HasTouched};
+ghost use Rattle.svga_model.specs.Accepted.{AreWords};
 ghost use Rattle.svga_model.specs.Acts.{Do};
 ghost use Rattle.svga_model.specs.CaptureFields.{key_of_word, limits_in, pages_at, record_at};
-ghost use Rattle.svga_model.specs.Captures.{flaw_in, listed_memory, listed_places, listed_regions, opening_in};
+ghost use Rattle.svga_model.specs.Captures.{flaw_in, listed_memory, listed_places, listed_regions, opening_in, words_in};
 ghost use Rattle.svga_model.specs.Faults.{fault_of};
 ghost use Rattle.svga_model.specs.Memories.{with_page};
 ghost use Rattle.svga_model.specs.Regions.{region_length};
@@ -29,7 +31,10 @@ use svga_machine::Machine;
 pub(crate) fn opening_of(alloc: Global, bytes: &[u8]) -> Result<(Machine, MemPages), AllocError>
     requires few { length bytes.now ≤ 134217728 }
     requires good { flaw_in bytes.now ≡ None }
-    ensures { IfOk result (λ opened. state_with opened.0 opened.1 ≡ opening_in bytes.now) }
+    ensures opened { IfOk result (λ opened. state_with opened.0 opened.1 ≡ opening_in bytes.now) }
+    ensures whole { IfOk result (λ opened. IsWholeState (limits_in bytes.now) (state_with opened.0 opened.1)) }
+    ensures numbers { IfOk result (λ _. AreWords (words_in bytes.now)) }
+    ensures chain { IfOk result (λ opened. opened.0.chain ≡ None) }
 {
     let limits = allowed_limits(bytes);
     let mut machine = Machine::new(alloc, limits)?;
@@ -55,7 +60,8 @@ fn run(machine: &mut Machine, pages: &mut MemPages, command: &CommandRef<'_>)
     requires well_formed { IsWellFormed (command_of command.now) }
     requires there { HasTouched machine.old.kept pages.old (command_of command.now) }
     requires admitted { fault_of (state_with machine.old pages.old) (Do (command_of command.now)) ≡ None }
-    ensures { state_with machine.new pages.new ≡ step (state_with machine.old pages.old) (Do (command_of command.now)) }
+    ensures ran { state_with machine.new pages.new ≡ step (state_with machine.old pages.old) (Do (command_of command.now)) }
+    ensures chain { machine.new.chain ≡ machine.old.chain }
 {
     let _effect = machine.run(pages, command);
 }
@@ -68,6 +74,7 @@ fn open_regions(machine: &mut Machine, pages: &mut MemPages, bytes: &[u8]) -> u3
     requires none { machine.old.kept.regions ≡ map.empty }
     ensures opened { state_with machine.new pages.new ≡ with_regions (state_with machine.old pages.old) (listed_regions bytes.now) }
     ensures end { result ≡ pages_at bytes.now }
+    ensures chain { machine.new.chain ≡ machine.old.chain }
 {
     let mut at = 36 + word(bytes, 8);
     for _ in 0..word(bytes, 28) {
@@ -82,6 +89,7 @@ fn open_region(machine: &mut Machine, pages: &mut MemPages, bytes: &[u8], at: u3
     requires next { IsNextRecord bytes.now at machine.old.kept }
     ensures opened { state_with machine.new pages.new ≡ with_regions (state_with machine.old pages.old) (map.insert machine.old.kept.regions (record_at bytes.now at).id (listed_places bytes.now (record_at bytes.now at))) }
     ensures end { result ≡ at + (8 + 4 * (record_at bytes.now at).count) }
+    ensures chain { machine.new.chain ≡ machine.old.chain }
 {
     let region = word(bytes, at);
     let count = word(bytes, at + 4);
@@ -102,7 +110,8 @@ fn open_place(machine: &mut Machine, pages: &mut MemPages, region: u32, place: u
     requires small { region ≤ 4095 }
     requires there { place < region_length machine.old.kept.regions region }
     requires allowed { IsPlaceWord machine.old.kept.limits.pages number }
-    ensures { state_with machine.new pages.new ≡ with_regions (state_with machine.old pages.old) (with_place machine.old.kept.regions region place number) }
+    ensures placed { state_with machine.new pages.new ≡ with_regions (state_with machine.old pages.old) (with_place machine.old.kept.regions region place number) }
+    ensures chain { machine.new.chain ≡ machine.old.chain }
 {
     if number != u32::MAX {
         let remap = CommandRef::RemapGmr2 {

@@ -3,7 +3,7 @@ ghost use Rattle.std.specs.Prelude.{◌≡◌, ◌+◌, ◌*◌, ◌≤◌, ◌=
 ghost use Rattle.std.specs.List.{range_with_len};
 ghost use Rattle.std.specs.Result.{result_err};
 ghost use Rattle.svga_capture.specs.Judged.{told};
-ghost use Rattle.svga_capture.specs.Records.{place_field, record_fields};
+ghost use Rattle.svga_model.specs.CaptureFields.{place_field, record_fields};
 ghost use Rattle.svga_model.specs.CaptureFields.{fifo_fields, first_flaw, flaw_of, header_fields, ordered_field, pages_at, record_at, region_fields, region_records, word_field};
 ghost use Rattle.svga_model.specs.Walks.{little_word};
 

@@ -1,8 +1,9 @@
 //! Captures by worked cases.
-use crate::{Capture, CaptureCause, CaptureFault, read_capture};
+use crate::{Capture, CaptureCause, CaptureFault, ReplayEnd, read_capture, replay};
 use std::alloc::{AllocError, Global};
 use std::test::Fail;
-use svga_cmd::{Fault, PageKey};
+use svga_cmd::{Fault, PageKey, PageStore};
+use svga_decode::Cause;
 
 /// One guest page, a framebuffer and a budget of one pixel, no regions and no pages, and an empty ring of one word.
 const SMALL: [u32; 14] = [0x46475653, 1, 20, 1, 1, 1, 1, 0, 0, 16, 20, 16, 16, 0];
@@ -237,17 +238,22 @@ fn waiting(capture: &Capture) -> (u32, Option<u32>, Option<u32>) {
     (count, first, second)
 }
 
+/// The small capture with this ring, up to byte `max`.
+fn small_ring(alloc: Global, max: u32, ring: &[u32]) -> Result<Vec<u8>, AllocError> {
+    let mut words = SMALL;
+    words[2] = max;
+    let mut bytes = bytes_from(alloc, &words[..9])?;
+    push_words(&mut bytes, ring)?;
+    Ok(bytes)
+}
+
 /// What a capture holds with this ring, up to byte `max`, and no records: its words, its fence and its budget.
 fn held(
     alloc: Global,
     max: u32,
     ring: &[u32],
 ) -> Result<Option<(u32, Option<u32>, Option<u32>, u32, u32)>, AllocError> {
-    let mut words = SMALL;
-    words[2] = max;
-    let mut bytes = bytes_from(alloc, &words[..9])?;
-    push_words(&mut bytes, ring)?;
-    match read(alloc, &bytes) {
+    match read(alloc, &small_ring(alloc, max, ring)?) {
         Ok(capture) => {
             let (count, first, second) = waiting(&capture);
             Ok(Some((count, first, second, capture.fence(), capture.budget())))
@@ -275,5 +281,103 @@ fn words_and_fences(rt: HostRuntime) -> Result<(), Fail> {
     ] {
         assert_eq!(rt; held(rt.alloc(), max, ring)?, Some(answer), "{ring:?}");
     }
+    Ok(())
+}
+
+/// How the replay of these bytes ends: its commands, its fence and its end.
+fn replayed(alloc: Global, bytes: &[u8]) -> Result<Option<(u32, u32, ReplayEnd)>, AllocError> {
+    let Ok(capture) = read(alloc, bytes) else {
+        return Ok(None);
+    };
+    let replayed = replay(alloc, &capture)?;
+    Ok(Some((replayed.commands, replayed.fence, replayed.ending)))
+}
+
+#[test]
+fn replays_of_small_rings(rt: HostRuntime) -> Result<(), Fail> {
+    let alloc = rt.alloc();
+    for (max, ring, answer) in [
+        (20, &[16u32, 20, 16, 16, 0][..], (0, 0, ReplayEnd::Whole)),
+        (
+            28,
+            &[16, 28, 24, 16, 35, 3, 0][..],
+            (
+                0,
+                0,
+                ReplayEnd::Fault {
+                    command: 0,
+                    fault: Fault::NoScreen,
+                },
+            ),
+        ),
+        (
+            24,
+            &[16, 24, 20, 16, 30, 0][..],
+            (0, 0, ReplayEnd::Torn { word: 1 }),
+        ),
+        (
+            32,
+            &[16, 32, 28, 16, 30, 7, 1040, 0][..],
+            (
+                1,
+                7,
+                ReplayEnd::Refused {
+                    word: 2,
+                    cause: Cause::ThreeD,
+                },
+            ),
+        ),
+    ] {
+        let bytes = small_ring(alloc, max, ring)?;
+        assert_eq!(rt; replayed(alloc, &bytes)?, Some(answer), "{ring:?}");
+    }
+    Ok(())
+}
+
+/// Two fences round the end of a ring, behind a MIN of 1,164, and a record of guest page 3.
+fn fences_round_the_end(alloc: Global) -> Result<Vec<u8>, AllocError> {
+    let mut words = SMALL;
+    words[2] = 11404;
+    words[3] = 4;
+    words[PAGES] = 1;
+    let mut bytes = bytes_from(alloc, &words[..9])?;
+    push_words(&mut bytes, &[1164, 11404, 1172, 11396])?;
+    push_copies(&mut bytes, 1148, 0)?;
+    push_words(&mut bytes, &[30, 7])?;
+    push_copies(&mut bytes, 10224, 0)?;
+    push_words(&mut bytes, &[30, 5, 3])?;
+    push_copies(&mut bytes, 4096, 0xEE)?;
+    Ok(bytes)
+}
+
+/// Appends so many copies of a byte.
+fn push_copies(bytes: &mut Vec<u8>, count: u32, byte: u8) -> Result<(), AllocError> {
+    for _ in 0..count {
+        bytes.push(byte)?;
+    }
+    Ok(())
+}
+
+/// Whether a guest page holds nothing but this byte after a replay, if the device has the page.
+fn page_holds(alloc: Global, capture: &Capture, number: u32, byte: u8) -> Result<bool, AllocError> {
+    let replayed = replay(alloc, capture)?;
+    if number < replayed.machine.limits().pages {
+        let page = replayed.pages.page(PageKey::Guest(number));
+        Ok(page.bytes().iter().all(|b| *b == byte))
+    } else {
+        Ok(false)
+    }
+}
+
+#[test]
+fn replay_round_the_end(rt: HostRuntime) -> Result<(), Fail> {
+    let alloc = rt.alloc();
+    let bytes = fences_round_the_end(alloc)?;
+    let answer = Some((2, 7, ReplayEnd::Whole));
+    assert_eq!(rt; replayed(alloc, &bytes)?, answer);
+    let Ok(capture) = read(alloc, &bytes) else {
+        return Err(AllocError.into());
+    };
+    assert!(rt; page_holds(alloc, &capture, 3, 0xEE)?);
     Ok(())
 }

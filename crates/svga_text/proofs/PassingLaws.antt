@@ -18,6 +18,10 @@ pub at_err : {T E Q : Type 0} (P : T → Type 0) (r : Result T E) → IsErr r �
 at_err P (Ok x) failed fault = absurd (cc failed)
 at_err P (Err e) failed fault = fault
 
+pub on_err : {T E : Type 0} (P : Type 0) (r : Result T E) → P → OnErr r P
+on_err P (Ok x) fault = tt
+on_err P (Err e) fault = fault
+
 -- one word more, of words that f gives
 pub spaced-take : {X : Type 0} (f : X → List ℕ) (xs : List X) (i : ℕ) (d : X) → i < length xs → spaced (take (i + 1) (map f xs)) ≡ spaced (take i (map f xs)) ++ 32 ∷ f (slice_index_or xs i d)
 spaced-take f xs i d less = ap spaced (take_more (map f xs) i (f d) (omega (arith, length-map xs f))) ∙ flat_map-append (λ word. 32 ∷ word) (take i (map f xs)) (slice_index_or (map f xs) i (f d) ∷ [])
@@ -108,6 +112,19 @@ module _ {K : Type 0} {held : K → Option (List ℕ)} {faults : K → ℕ} wher
   Writes-end now ys (Err e) one last = fault-then ys one last
 
 module _ {K : Type 0} (held : K → Option (List ℕ)) (faults : K → ℕ) where
+  -- the same, said of the same text
+  pub PassesOn-same : {xs ys : List ℕ} (before now : K) (pending left : List ℕ) (r : Result (Unit {0}) WriteFault) → xs ≡ ys → PassesOn held faults before now pending left xs r → PassesOn held faults before now pending left ys r
+  PassesOn-same before now pending left r is = subst (λ t. PassesOn held faults before now pending left t r) is
+
+  -- the two cases of a text written, as contracts tell them
+  pub Writes-ok : {texts others : List ℕ} (before now : K) (r : Result (Unit {0}) WriteFault) → texts ≡ others → Writes held faults before now texts r → OnOk r (Grows held faults before now others)
+  Writes-ok before now (Ok x) is writes = subst (Grows held faults before now) is writes
+  Writes-ok before now (Err e) is writes = tt
+
+  pub Writes-fault : {texts others : List ℕ} (before now : K) (r : Result (Unit {0}) WriteFault) → texts ≡ others → Writes held faults before now texts r → OnErr r (GrowsByPrefix held faults before now others)
+  Writes-fault before now (Ok x) is writes = tt
+  Writes-fault before now (Err e) is writes = subst (GrowsByPrefix held faults before now) is writes
+
   pub Writes-same : {texts others : List ℕ} (before now : K) (r : Result (Unit {0}) WriteFault) → texts ≡ others → Writes held faults before now texts r → Writes held faults before now others r
   Writes-same before now r is = subst (λ t. Writes held faults before now t r) is
 

@@ -1,5 +1,10 @@
 pub mod CommandLines
 pub mod Fields
+pub mod Hexadecimal
 pub mod Lines
 pub mod Names
+pub mod Pages
 pub mod Passing
+pub mod Pictures
+pub mod Rows
+pub mod Runs

@@ -3,7 +3,7 @@ use Rattle.std.specs.Prelude.{ℕ, List, [], ◌∷◌, ◌++◌, codes}
 use Rattle.std.specs.Fmt.{decimal}
 use Rattle.std.specs.List.{flat_map}
 use Rattle.svga_text.specs.declared.line.Line.{Line}
-use Rattle.svga_text.specs.declared.line.Line.TheVariants.{Fence, RefusedWord, TornWord}
+use Rattle.svga_text.specs.declared.line.Line.TheVariants.{Fence, RefusedWord, TornWord, Commands, FaultAt, End, CaptureByte}
 
 -- further words of a line, each behind a space
 abbrev pub spaced : List (List ℕ) → List ℕ
@@ -18,3 +18,7 @@ abbrev pub line_text : Line → List ℕ
 line_text (Fence value) = line (codes "fence") (decimal value ∷ [])
 line_text (RefusedWord word cause) = line (codes "refused at word") (decimal word ∷ cause.now ∷ [])
 line_text (TornWord word) = line (codes "torn at word") (decimal word ∷ [])
+line_text (Commands count) = line (codes "commands") (decimal count ∷ [])
+line_text (FaultAt command number name) = line (codes "fault at command") (decimal command ∷ decimal number ∷ name.now ∷ [])
+line_text End = line (codes "end") []
+line_text (CaptureByte place cause) = line (codes "capture byte") (decimal place ∷ cause.now ∷ [])

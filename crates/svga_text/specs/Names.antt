@@ -2,10 +2,14 @@
 use Rattle.std.specs.Prelude.{ℕ, List, codes}
 use Rattle.svga_cmd.specs.declared.command.Command.{Command}
 use Rattle.svga_cmd.specs.declared.command.Command.TheVariants.{Update, Fence, DefineScreen, DestroyScreen, DefineGmrfb, BlitToScreen, BlitToGmrfb, DefineGmr2, RemapGmr2}
+use Rattle.svga_cmd.specs.declared.fault.Fault.{Fault}
+use Rattle.svga_cmd.specs.declared.fault.Fault.TheVariants as fault
 use Rattle.svga_cmd.specs.declared.format.Format.{Format}
 use Rattle.svga_cmd.specs.declared.format.Format.TheVariants.{Bgrx32, Bgr24, Rgb565, Rgb555}
 use Rattle.svga_cmd.specs.declared.remap.RemapData.{RemapData}
 use Rattle.svga_cmd.specs.declared.remap.RemapData.TheVariants.{Ppn32, Ppn64, SinglePpn32, SinglePpn64, ViaGmr32, ViaGmr64}
+use Rattle.svga_model.specs.CaptureFields as flaw
+use Rattle.svga_model.specs.CaptureFields.{Flaw}
 use Rattle.svga_model.specs.RefusedWords.{Refusal, Unsupported, ThreeD, Escape, Unknown, BadSize, BadFlags, BadFormat, TooManyPages}
 
 -- the name of a command
@@ -46,3 +50,30 @@ refusal_name BadSize = codes "BadSize"
 refusal_name BadFlags = codes "BadFlags"
 refusal_name BadFormat = codes "BadFormat"
 refusal_name TooManyPages = codes "TooManyPages"
+
+-- why an act isn't admissible
+abbrev pub fault_name : Fault → List ℕ
+fault_name fault.NoRegion = codes "NoRegion"
+fault_name fault.RegionId = codes "RegionId"
+fault_name fault.PlaceLimit = codes "PlaceLimit"
+fault_name fault.RangeBeyond = codes "RangeBeyond"
+fault_name fault.Unmapped = codes "Unmapped"
+fault_name fault.BadPage = codes "BadPage"
+fault_name fault.NoGmrfb = codes "NoGmrfb"
+fault_name fault.NoScreen = codes "NoScreen"
+fault_name fault.ScreenId = codes "ScreenId"
+fault_name fault.ScreenSize = codes "ScreenSize"
+fault_name fault.PixelBudget = codes "PixelBudget"
+fault_name fault.NegativeSide = codes "NegativeSide"
+fault_name fault.BeyondRegion = codes "BeyondRegion"
+fault_name fault.ChainEnd = codes "ChainEnd"
+fault_name fault.ChainLimit = codes "ChainLimit"
+
+-- why bytes are no capture
+abbrev pub flaw_name : Flaw → List ℕ
+flaw_name flaw.Magic = codes "Magic"
+flaw_name flaw.Version = codes "Version"
+flaw_name flaw.Number = codes "Number"
+flaw_name flaw.Order = codes "Order"
+flaw_name flaw.Short = codes "Short"
+flaw_name flaw.Long = codes "Long"

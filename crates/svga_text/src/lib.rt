@@ -1,16 +1,26 @@
 //! The texts that the program writes, line by line.
 //!
 //! `Render` writes each line of a text to a sink. `command_line` defines the line of a command, by cases on the
-//! command, and `line_text` every other line.
+//! command, `screens_text` the lines of screens and their pictures, `page_text` those of a page, and `line_text` every
+//! other line.
 #![tactic(auto)]
 
 mod command_line;
 mod entry;
 mod field;
+mod hexadecimal;
+mod laws;
 mod line;
 mod name;
+mod page;
 mod pending;
+mod picture;
 mod render;
+mod runs;
 
+pub use laws::runs_are_largest;
 pub use line::Line;
 pub use render::Render;
+
+#[cfg(test)]
+mod tests;

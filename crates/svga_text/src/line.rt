@@ -4,9 +4,33 @@
 #[derive(Clone, Copy, Debug)]
 pub enum Line {
     /// The last fence.
-    Fence { value: u32 },
+    Fence {
+        value: u32,
+    },
     /// A word, counted from 0, that no sentence has there.
-    RefusedWord { word: u32, cause: &'static str },
+    RefusedWord {
+        word: u32,
+        cause: &'static str,
+    },
     /// An end inside a command, or bytes that are no whole word, behind so many words.
-    TornWord { word: u32 },
+    TornWord {
+        word: u32,
+    },
+    /// How many commands were run whole.
+    Commands {
+        count: u32,
+    },
+    /// The command, counted from 0, that has a fault, with the fault's number and name.
+    FaultAt {
+        command: u32,
+        number: u32,
+        name: &'static str,
+    },
+    /// All was run.
+    End,
+    /// The byte at which an input is no capture.
+    CaptureByte {
+        place: u32,
+        cause: &'static str,
+    },
 }

@@ -1,15 +1,19 @@
 //! Text on its way to a sink, gathered so that the sink gets it in large pieces.
-ghost use Rattle.std.specs.Prelude.{◌≡◌, ℕ, ◌+◌, ◌≤◌, List, [], ◌∷◌, ◌++◌, length, map, vec_capacity, IfOk, OnOk, OnErr};
+ghost use Rattle.std.specs.Prelude.{◌≡◌, ℕ, ◌+◌, ◌<◌, ◌≤◌, List, [], ◌∷◌, ◌++◌, length, map, vec_capacity, IfOk, OnOk, OnErr};
 ghost use Rattle.std.specs.Fmt.{decimal};
 ghost use Rattle.svga_io.specs.Growing.{Grows, GrowsByPrefix};
 ghost use Rattle.svga_text.specs.Fields.{field_text};
-ghost use Rattle.svga_text.specs.Lines.{spaced};
+ghost use Rattle.svga_text.specs.Lines.{line, spaced};
+ghost use Rattle.svga_text.specs.Pages.{key_text};
 ghost use Rattle.svga_text.specs.Passing.{PassesOn};
+ghost use Rattle.svga_text.specs.Pictures.{pixels_text};
 
 use crate::field::Field;
+use crate::hexadecimal::{digits_of_byte, digits_of_colour};
 use itoa::Buffer;
 use std::alloc::{AllocError, Global};
 use std::marker::Model;
+use svga_cmd::PageKey;
 use svga_io::{Sink, WriteFault, write_all};
 
 /// How many bytes are gathered at most.
@@ -104,7 +108,63 @@ impl Pending {
             Field::Unsigned(n) => self.word(sink, Buffer::new().format(n).as_bytes()),
             Field::Signed(z) => self.word(sink, Buffer::new().format(z).as_bytes()),
             Field::Name(name) => self.word(sink, name.as_bytes()),
+            Field::Byte(byte) => self.word(sink, &digits_of_byte(byte)),
+            Field::Key(key) => self.key(sink, key),
         }
+    }
+
+    fn key<K: Sink>(&mut self, sink: &mut K, key: PageKey) -> Result<(), WriteFault>
+        ensures { PassesOn K.held K.faults sink.old sink.new self.old self.new
+            (32 ∷ key_text key) result }
+    {
+        match key {
+            PageKey::Guest(number) => self.lettered(sink, b" p", number),
+            PageKey::Frame(number) => self.lettered(sink, b" f", number),
+        }
+    }
+
+    fn lettered<K: Sink>(
+        &mut self,
+        sink: &mut K,
+        letter: &[u8],
+        number: u32,
+    ) -> Result<(), WriteFault>
+        ensures { PassesOn K.held K.faults sink.old sink.new self.old self.new
+            (letter.now ++ decimal number) result }
+    {
+        self.text(sink, letter)?;
+        self.text(sink, Buffer::new().format(number).as_bytes())
+    }
+
+    /// Writes pixels of one colour behind a space.
+    pub fn pixels<K: Sink>(
+        &mut self,
+        sink: &mut K,
+        count: usize,
+        colour: u32,
+    ) -> Result<(), WriteFault>
+        requires { colour < 16777216 }
+        ensures { PassesOn K.held K.faults sink.old sink.new self.old self.new
+            (32 ∷ pixels_text (count, colour)) result }
+    {
+        self.word(sink, Buffer::new().format(count).as_bytes())?;
+        self.text(sink, b"*")?;
+        self.text(sink, &digits_of_colour(colour))
+    }
+
+    /// Writes a whole line, that begins so, with these words behind.
+    pub fn line<K: Sink>(
+        &mut self,
+        sink: &mut K,
+        begin: &str,
+        fields: &[Field],
+    ) -> Result<(), WriteFault>
+        ensures { PassesOn K.held K.faults sink.old sink.new self.old self.new
+            (line begin.now (map field_text fields.now)) result }
+    {
+        self.text(sink, begin.as_bytes())?;
+        self.fields(sink, fields)?;
+        self.text(sink, b"\n")
     }
 
     fn word<K: Sink>(&mut self, sink: &mut K, word: &[u8]) -> Result<(), WriteFault>

@@ -79,6 +79,22 @@ impl Render {
                 &[Unsigned(*word), Name(*cause)],
             ),
             Line::TornWord { word } => self.write(sink, "torn at word", &[Unsigned(*word)]),
+            Line::Commands { count } => self.write(sink, "commands", &[Unsigned(*count)]),
+            Line::FaultAt {
+                command,
+                number,
+                name,
+            } => self.write(
+                sink,
+                "fault at command",
+                &[Unsigned(*command), Unsigned(*number), Name(*name)],
+            ),
+            Line::End => self.write(sink, "end", &[]),
+            Line::CaptureByte { place, cause } => self.write(
+                sink,
+                "capture byte",
+                &[Unsigned(*place), Name(*cause)],
+            ),
         }
     }
 

@@ -7,5 +7,10 @@ use Rattle.svga_capture.proofs.OpeningPlaces.{so_far}
 use Rattle.svga_capture.proofs.opening.open_region.Given as goal
 
 abbrev pub invariant-loop-place : goal.invariant-loop-place
-invariant-loop-place l = state_with l.machine l.pages
-    ≡ with_regions (state_with l.fn.machine l.fn.pages) (map.insert l.fn.machine.kept.regions (record_at l.bytes l.at).id (so_far l.bytes (record_at l.bytes l.at) l.place))
+invariant-loop-place l = record {
+  state : state_with l.machine l.pages
+      ≡ with_regions (state_with l.fn.machine l.fn.pages)
+      (map.insert l.fn.machine.kept.regions (record_at l.bytes l.at).id
+      (so_far l.bytes (record_at l.bytes l.at) l.place));
+  chain : l.machine.chain ≡ l.fn.machine.chain;
+}

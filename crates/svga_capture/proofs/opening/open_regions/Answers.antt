@@ -10,33 +10,44 @@ word-end-requires c = omega (arith, header_there c.args.bytes.now c.requires.goo
 
 pub loop-init : goal.loop-init
 loop-init c = record {
-  left = subst (λ at. AreLeft c.args.bytes.now (c.word-end.result - 0) (36 + at) c.args.machine.now.kept.regions) (sym c.word-at.ensures)
-      (subst (λ n. AreLeft c.args.bytes.now n (36 + ring_end c.args.bytes.now) c.args.machine.now.kept.regions)
-      (let count = c.word-end.ensures in let e : region_count c.args.bytes.now ≡ c.word-end.result - 0 = omega (arith, count) in e)
-      (all_left c.args.bytes.now c.args.machine.now.kept.regions (parts_good c.args.bytes.now c.requires.good).regions c.requires.none));
-  state = refl;
+  opened = record {
+    left = subst (λ at. AreLeft c.args.bytes.now (c.word-end.result - 0) (36 + at) c.args.machine.now.kept.regions)
+        (sym c.word-at.ensures)
+        (subst (λ n. AreLeft c.args.bytes.now n (36 + ring_end c.args.bytes.now) c.args.machine.now.kept.regions)
+        (let count = c.word-end.ensures in
+        let e : region_count c.args.bytes.now ≡ c.word-end.result - 0 = omega (arith, count) in e)
+        (all_left c.args.bytes.now c.args.machine.now.kept.regions
+        (parts_good c.args.bytes.now c.requires.good).regions c.requires.none));
+    state = refl;
+  };
+  chain = refl;
 }
 
 pub open_region-at-requires-clause-next : goal.open_region-at-requires-clause-next
 open_region-at-requires-clause-next c =
     next_left c.args.bytes.now (c.word-end.result - (c.loop.counter + 1)) c.loop.at c.loop.machine.kept
-    (ap (λ s. s.kept.limits) c.loop.invariant.state ∙ c.requires.limits)
-    (left_next c.args.bytes.now c.word-end.result c.loop.counter c.loop.at c.loop.machine.kept.regions c.loop-test.true c.loop.invariant.left)
+    (ap (λ s. s.kept.limits) c.loop.invariant.opened.state ∙ c.requires.limits)
+    (left_next c.args.bytes.now c.word-end.result c.loop.counter c.loop.at c.loop.machine.kept.regions c.loop-test.true
+    c.loop.invariant.opened.left)
 
 pub loop-preserved : goal.loop-preserved
-loop-preserved c =
-    regions_more c.args.bytes.now (c.word-end.result - (c.loop.counter + 1)) c.loop.at c.open_region-at.result
-    (state_with c.args.machine.now c.args.pages.now) (state_with c.loop.machine c.loop.pages)
-    (state_with c.open_region-at.new.machine c.open_region-at.new.pages)
-    (left_next c.args.bytes.now c.word-end.result c.loop.counter c.loop.at c.loop.machine.kept.regions c.loop-test.true c.loop.invariant.left)
-    c.loop.invariant.state c.open_region-at.ensures.opened c.open_region-at.ensures.end
+loop-preserved c = record {
+  opened = regions_more c.args.bytes.now (c.word-end.result - (c.loop.counter + 1)) c.loop.at c.open_region-at.result
+      (state_with c.args.machine.now c.args.pages.now) (state_with c.loop.machine c.loop.pages)
+      (state_with c.open_region-at.new.machine c.open_region-at.new.pages)
+      (left_next c.args.bytes.now c.word-end.result c.loop.counter c.loop.at c.loop.machine.kept.regions
+      c.loop-test.true c.loop.invariant.opened.left)
+      c.loop.invariant.opened.state c.open_region-at.ensures.opened c.open_region-at.ensures.end;
+  chain = c.open_region-at.ensures.chain ∙ c.loop.invariant.chain;
+}
 
 pub returns-clause-opened : goal.returns-clause-opened
 returns-clause-opened c =
-    c.loop.invariant.state
+    c.loop.invariant.opened.state
     ∙ regions_last c.args.bytes.now c.word-end.result c.loop.counter c.loop.at c.loop.machine.kept.regions
-    (state_with c.args.machine.now c.args.pages.now) c.loop-test.false c.loop.invariant.left
+    (state_with c.args.machine.now c.args.pages.now) c.loop-test.false c.loop.invariant.opened.left
 
 pub returns-clause-end : goal.returns-clause-end
 returns-clause-end c =
-    behind_last c.args.bytes.now c.word-end.result c.loop.counter c.loop.at c.loop.machine.kept.regions c.loop-test.false c.loop.invariant.left
+    behind_last c.args.bytes.now c.word-end.result c.loop.counter c.loop.at c.loop.machine.kept.regions
+    c.loop-test.false c.loop.invariant.opened.left

@@ -1,7 +1,7 @@
 -- What is wrong with all of them is what is wrong with those that are left.
 use Rattle.std.proofs.Common.{◌≡◌, ◌+◌, ◌*◌, ◌-◌, ◌≤◌, length, map as map_list}
 use Rattle.std.specs.List.{range_with_len}
-use Rattle.svga_capture.specs.Records.{place_field}
+use Rattle.svga_model.specs.CaptureFields.{place_field}
 use Rattle.svga_model.specs.CaptureFields.{first_flaw}
 use Rattle.svga_capture.proofs.regions.judge_places.Given as goal
 
