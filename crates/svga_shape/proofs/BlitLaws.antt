@@ -1,5 +1,5 @@
 -- The pixels of a blit, and the blit's part on each screen.
-use Rattle.std.proofs.Common.{◌≡◌, ℕ, ◌<◌, inl, refl, sym, ap, ◌∙◌, subst, List, [], ◌∷◌, filter_map, Option, Some, None, Bool, true, ◌&&◌, ℤ, pos, ◌+ℤ◌, int_lt, int_le, arith}
+use Rattle.std.proofs.Common.{◌≡◌, ℕ, ◌<◌, inl, refl, sym, ap, ◌∙◌, subst, Option, Some, None, Bool, true, ◌&&◌, ℤ, pos, ◌+ℤ◌, arith}
 use Rattle.std.specs.List.{list_any, range_with_len}
 use Rattle.svga_cmd.specs.declared.blit.Blit.{Blit}
 use Rattle.svga_cmd.specs.declared.gmrfb.Gmrfb.{Gmrfb}
@@ -7,9 +7,9 @@ use Rattle.svga_cmd.specs.declared.screen.ScreenDef.{ScreenDef}
 use Rattle.svga_model.proofs.PaintedMembers.{in_filter_map}
 use Rattle.svga_model.proofs.PaintedPixels.{IsPixel, blit_pixel_has, blit_pixel_is}
 use Rattle.svga_model.proofs.PaintedPlaces.{IsAt, is_covered, on_screen}
-use Rattle.svga_model.proofs.PaintedTests.{all_four, both}
+use Rattle.svga_model.proofs.PaintedTests.{both}
 use Rattle.svga_model.specs.BlitFaults.{some_byte}
-use Rattle.svga_model.specs.BlitPixels.{BlitPixel, ScreenPixel, blit_offset, blit_pixels, corner_x, corner_y, covered_on, covers, int_range, is_in_rect, is_meant, pixel_there}
+use Rattle.svga_model.specs.BlitPixels.{BlitPixel, ScreenPixel, blit_offset, blit_pixels, corner_x, corner_y, covered_on, covers, is_in_rect, is_meant}
 use Rattle.svga_model.specs.Colours.{pixel_length}
 use Rattle.svga_model.specs.Members.{IsIn}
 use Rattle.svga_shape.proofs.SpanMembers.{item_passes, number_passes, same_tests, some_item, some_number}

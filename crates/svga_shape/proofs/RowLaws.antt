@@ -1,14 +1,11 @@
 -- The bytes of a row's pixels are one span, and those of an area the spans of its rows.
-use Rattle.std.proofs.Common.{◌≡◌, ℕ, zero, suc, ◌+◌, ◌-◌, ◌*◌, ◌/◌, ◌%◌, ◌<◌, ◌≤◌, refl, sym, ap, ◌∙◌, Bool, true, false, ◌&&◌, nat_le, nat_lt, ℤ, pos, ◌+ℤ◌, ◌-ℤ◌, ◌*ℤ◌, arith}
+use Rattle.std.proofs.Common.{◌≡◌, ℕ, ◌+◌, ◌-◌, ◌*◌, ◌/◌, ◌%◌, ◌<◌, ◌≤◌, refl, sym, ap, ◌∙◌, Bool, true, false, ◌&&◌, nat_le, nat_lt, ℤ, pos, ◌+ℤ◌, arith}
 use Rattle.std.proofs.lemmas.Bool.Decides.{nat_tests}
 use Rattle.std.proofs.lemmas.Int.{ints}
 use Rattle.std.proofs.lemmas.Nat.{div-add-mod', div_below, mod_below, mul-add-lt}
-use Rattle.std.proofs.Math.IntN.{+ℤ-suc_ℤ, +ℤ_idr, suc_ℤ, suc_ℤ-*ℤ}
-use Rattle.std.proofs.Math.Nat.{mul_comm, suc-mul, zero-mul}
+use Rattle.std.proofs.Math.Nat.{mul_comm}
 use Rattle.std.specs.List.{list_any, range_with_len}
 use Rattle.svga_cmd.specs.declared.blit.Blit.{Blit}
-use Rattle.svga_cmd.specs.declared.format.Format.{Format}
-use Rattle.svga_cmd.specs.declared.format.Format.TheVariants.{Bgrx32, Bgr24, Rgb565, Rgb555}
 use Rattle.svga_cmd.specs.declared.gmrfb.Gmrfb.{Gmrfb}
 use Rattle.svga_model.proofs.PaintedTests.{both}
 use Rattle.svga_model.proofs.PixelSteps.{offset_steps, some_bytes}

@@ -1,5 +1,5 @@
 -- Each byte of a blit's pixels is one of the region's, and lies on a page that the memory has.
-use Rattle.std.proofs.Common.{◌≡◌, ℕ, ◌+◌, ◌-◌, ◌*◌, ◌/◌, ◌%◌, ◌<◌, ◌^◌, refl, sym, ap, ◌∙◌, subst, List, [], ◌∷◌, filter_map, length, Option, Some, None, IfSome, IsSomeAnd, unwrap_or, is_none, Bool, true, false, not, ◌&&◌, ◌||◌, nat_le, ℤ, pos, ◌+ℤ◌, ◌≤ℤ◌, int_lt, int_le, unsigned_abs, arith}
+use Rattle.std.proofs.Common.{◌≡◌, ℕ, ◌+◌, ◌-◌, ◌*◌, ◌/◌, ◌%◌, ◌<◌, ◌^◌, sym, ap, ◌∙◌, subst, [], length, Option, Some, None, IfSome, IsSomeAnd, unwrap_or, is_none, Bool, true, false, not, ◌&&◌, ◌||◌, nat_le, ℤ, pos, ◌+ℤ◌, ◌≤ℤ◌, int_lt, unsigned_abs, arith}
 use Rattle.std.proofs.lemmas.Bool.Decides.{nat_tests}
 use Rattle.std.proofs.lemmas.Int.{ints}
 use Rattle.std.proofs.lemmas.Nat.{div-add-mod', div_below, mod_below}
@@ -15,7 +15,7 @@ use Rattle.svga_cmd.specs.declared.screen.ScreenDef.{ScreenDef}
 use Rattle.svga_model.proofs.PaintedMembers.{range_has}
 use Rattle.svga_model.proofs.PaintedPixels.{blit_pixel_has}
 use Rattle.svga_model.specs.BlitFaults.{is_on_unmapped, is_outside, some_byte}
-use Rattle.svga_model.specs.BlitPixels.{BlitPixel, ScreenPixel, blit_offset, blit_pixels, covers, int_range, is_in_rect, pixel_there}
+use Rattle.svga_model.specs.BlitPixels.{BlitPixel, ScreenPixel, blit_offset, blit_pixels, covers, is_in_rect}
 use Rattle.svga_model.specs.Colours.{pixel_length}
 use Rattle.svga_model.specs.Members.{IsIn}
 use Rattle.svga_model.specs.RegionBytes.{is_beyond, page_of_byte}

@@ -1,5 +1,5 @@
 -- The areas of screens that a command paints.
-use Rattle.std.specs.Prelude.{◌≡◌, ℕ, ◌+◌, ◌<◌, ◌≤◌, ⊤, List, length, slice_index_or, is_some, true, Option, Some, None, IsSomeAnd}
+use Rattle.std.specs.Prelude.{◌≡◌, ℕ, ◌+◌, ◌<◌, ◌≤◌, List, length, slice_index_or, is_some, true, Option, Some, IsSomeAnd}
 use Rattle.svga_cmd.specs.declared.screen.ScreenDef.{ScreenDef}
 use Rattle.svga_model.specs.BlitEffects.{NewColours}
 use Rattle.svga_screen.specs.Clips.{is_inside, no_area}
