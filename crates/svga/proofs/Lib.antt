@@ -1,4 +1,8 @@
 mod BytesLaws
 mod Listed
 mod ListingLaws
+mod MappedLaws
+mod RangeLaws
+mod ReplayLaws
 mod RunLaws
+mod WithinLaws

@@ -1,13 +1,11 @@
 -- Listings of commands one after another.
 use Rattle.std.proofs.Common.{◌≡◌, ℕ, ◌+◌, ◌≤◌, ◌<◌, slice_index, List, [], ◌∷◌, ◌++◌, length, take, drop, refl, sym, ap, subst, ◌∙◌, append_assoc, append-nil, arith, length-append, length-take}
-use Rattle.std.proofs.lemmas.Grind.{flat_map-append}
 use Rattle.std.proofs.lemmas.List.{drop_more, take_all, take_more, take-append-drop}
-use Rattle.std.proofs.lemmas.List.Elements.{All-take}
 use Rattle.std.specs.Prelude.{Option}
 use Rattle.svga.proofs.Listed.{IsListed}
 use Rattle.svga.specs.Texts.{listing}
+use Rattle.svga_capture.proofs.ReplayEnds.{front_extends}
 use Rattle.svga_cmd.specs.Spelling.{Spells, spelling}
-use Rattle.svga_cmd.specs.WellFormed.{IsWellFormed}
 use Rattle.svga_cmd.specs.declared.command.Command.{Command}
 use Rattle.svga_decode.proofs.FeedLaws.{fed_more}
 use Rattle.svga_decode.specs.Answers.{IsAnswer}
@@ -16,7 +14,7 @@ use Rattle.svga_decode.specs.declared.answer.Fed.{Fed}
 use Rattle.svga_decode.specs.declared.answer.Fed.TheVariants.{More, Whole}
 use Rattle.svga_io.proofs.Chains.{Grows-nil, Grows-then, GrowsByPrefix-first, GrowsByPrefix-then}
 use Rattle.svga_io.specs.Growing.{Grows, GrowsByPrefix}
-use Rattle.svga_model.proofs.GrammarFronts.{as_many, come_front, HasCome-nil, HasCome-whole, one_front, refused_front}
+use Rattle.svga_model.proofs.GrammarFronts.{come_front, HasCome-nil, HasCome-whole, one_front, refused_front}
 use Rattle.svga_model.specs.Endings.{IsFront, StandAtFront}
 use Rattle.svga_model.specs.Progress.{HasCome}
 use Rattle.svga_model.specs.Sentences.{Begins, spelling_all}
@@ -33,15 +31,6 @@ listing-append word (c ∷ cs) ds =
 
 pub listing-push : (cs : List Command) (c : Command) → listing 0 (cs ++ c ∷ []) ≡ listing 0 cs ++ command_line (length (spelling_all cs)) c
 listing-push cs c = listing-append 0 cs (c ∷ []) ∙ ap (λ t. listing 0 cs ++ t) (append-nil (command_line (0 + length (spelling_all cs)) c) ∙ ap (λ n. command_line n c) (let e : 0 + length (spelling_all cs) ≡ length (spelling_all cs) = omega arith in e))
-
--- what stands at the front begins the whole front
-pub front_extends : (ws : List ℕ) (cs ds : List Command) → IsFront ws cs → StandAtFront ds ws → cs ≡ ds ++ drop (length ds) cs
-front_extends ws cs ds front stands = sym (take-append-drop (length ds) cs) ∙ ap (λ t. t ++ drop (length ds) cs)
-    (as_many (take (length ds) cs) ds (spelling_all (drop (length ds) cs) ++ front.stands.words.0) stands.words.0 (All-take IsWellFormed (length ds) cs front.stands.well_formed) stands.well_formed
-    (sym (append_assoc (spelling_all (take (length ds) cs)) (spelling_all (drop (length ds) cs)) front.stands.words.0)
-    ∙ ap (λ t. t ++ front.stands.words.0) (sym (flat_map-append spelling (take (length ds) cs) (drop (length ds) cs)) ∙ ap spelling_all (take-append-drop (length ds) cs))
-    ∙ sym front.stands.words.1 ∙ stands.words.1)
-    (omega (arith, length-take (length ds) cs, front.longest ds stands)))
 
 -- the word at a place, between those before it and those behind it
 at_place : (ws : List ℕ) (i : ℕ) → i < length ws → ws ≡ take i ws ++ slice_index ws i ∷ drop (i + 1) ws

@@ -1,22 +1,38 @@
 -- How a run ends, from what its last call did.
-use Rattle.std.proofs.Common.{◌≡◌, ◌≢◌, ◌↔◌, ◌-◌, ◌⊎◌, IfSome, IsSome, inl, inr, ℕ, ◌≤◌, ◌<◌, ◌+◌, get_or, map, ◌∷◌, List, [], length, Some, None, refl, sym, ap, subst, ◌∙◌, append-nil, arith}
-use Rattle.std.specs.Prelude.{Option, String, string_bytes}
+use Rattle.std.proofs.Common.{◌≡◌, ◌≢◌, ◌↔◌, ◌-◌, ◌⊎◌, IfSome, IsSome, inl, inr, ℕ, ◌≤◌, ◌<◌, ◌+◌, List, [], length, Some, None, refl, sym, ap, subst, ◌∙◌, append-nil, arith}
+use Rattle.std.proofs.lemmas.List.{length-map}
+use Rattle.std.proofs.lemmas.Option.{slice_get_past}
+use Rattle.std.specs.Option.{option_and_then}
+use Rattle.std.specs.Prelude.{Option, String}
 use Rattle.std.specs.declared.alloc.Global.{Global}
 use Rattle.svga.specs.Bytes.{IsEndingOfBytes, IsSentenceInBytes, torn_by, words_in}
-use Rattle.svga.specs.Due.{AsksForWords, IsComplete, IsDue, IsRun, SourceTells, GivesAll, TakesAtMost, TakesMore, usage, listed, read_fault, too_long}
+use Rattle.svga.specs.Due.{IsComplete, IsDue, IsRun, SourceTells, GivesAll, TakesAtMost, TakesMore, WasHad, had, longest, read_fault, too_long, usage}
+use Rattle.svga.specs.Forms.{AsksFor, IsAsked, form_word}
+use Rattle.svga.specs.Inputs.{IsOfInput, IsReplayed, IsWholeInput, TellsInput, no_capture, replayed}
+use Rattle.svga.specs.ReplayTexts.{replay_status, replay_text}
 use Rattle.svga.specs.Telling.{Tells}
 use Rattle.svga.specs.Texts.{words_status, words_text}
+use Rattle.svga.specs.declared.form.Form.{Form}
+use Rattle.svga.specs.declared.form.Form.TheVariants.{Words, Replay}
 use Rattle.svga_cmd.specs.declared.command.Command.{Command}
 use Rattle.svga_io.specs.Growing.{Grows}
 use Rattle.svga_io.specs.Taking.{taken_count}
 use Rattle.svga_model.proofs.GrammarEndings.{one_ending, whole_ending}
 use Rattle.svga_model.proofs.GrammarFronts.{nothing_begun}
-use Rattle.svga_model.specs.Endings.{End, Refused, Torn, Whole}
-use Rattle.svga_model.specs.Sentences.{spelling_all}
+use Rattle.svga_model.specs.Acts.{Act, Do}
+use Rattle.svga_model.specs.Captures.{Capture}
+use Rattle.svga_model.specs.Endings.{End, IsEnding, Refused, Torn, Whole}
+use Rattle.svga_model.specs.Faults.{fault_of}
+use Rattle.svga_model.specs.Replays.{AtEnd, AtFault, ReplayEnd, acts_of, replay_end, replay_of}
+use Rattle.svga_model.specs.Runs.{done, run, stopping_fault}
+use Rattle.svga_model.specs.Sentences.{IsSentence, spelling_all}
+use Rattle.svga_model.specs.States.{State}
 
-module _ {K : Type 0} {words : List (String Global)} {r : SourceTells} {held : K → Option (List ℕ)} {faults : K → ℕ} where
+module _ {K : Type 0} {words : List (String Global)} {r : SourceTells} {held : K → Option (List ℕ)}
+    {faults : K → ℕ} where
   -- a text that is due was told
-  pub run_told : {before now : K} {text : List ℕ} (status answer : ℕ) → IsDue words r status text → status ≢ 5 → status ≢ 6 → Tells held faults before now text status answer → IsRun words r held faults before now answer
+  pub run_told : {before now : K} {text : List ℕ} (status answer : ℕ) → IsDue words r status text → status ≢ 5
+      → status ≢ 6 → Tells held faults before now text status answer → IsRun words r held faults before now answer
   run_told {before} {now} {text} status answer due not5 not6 (inl (is, grown)) = record {
     told = λ _ _. (text, subst (λ n. IsDue words r n text) (sym is) due, grown);
     write_fault = λ five. absurd (not5 (sym is ∙ five));
@@ -29,62 +45,131 @@ module _ {K : Type 0} {words : List (String Global)} {r : SourceTells} {held : K
   }
 
   -- no memory was found
-  pub run_memory : (before now : K) (answer : ℕ) → answer ≡ 6 → AsksForWords words → now ≡ before → IsRun words r held faults before now answer
-  run_memory before now answer is form same = record {
+  pub run_memory : (before now : K) (answer : ℕ) → answer ≡ 6 → IsAsked words → now ≡ before
+      → IsRun words r held faults before now answer
+  run_memory before now answer is asked same = record {
     told = λ _ other. absurd (other is);
     write_fault = λ five. absurd (omega arith);
-    memory = λ _. (form, same);
+    memory = λ _. (asked, same);
   }
 
--- one word is the word that it is
-pub one_word : (words : List (String Global)) (word : String Global) (text : List ℕ) → 1 ≤ length words → length words < 2 → word ≡ get_or words 0 word → (string_bytes word ≡ text) ↔ (map string_bytes words ≡ text ∷ [])
-one_word [] word text some few is = absurd (omega arith)
-one_word (w ∷ []) word text some few is = (λ e. ap (λ t. t ∷ []) (ap string_bytes (sym is) ∙ e), λ e. ap string_bytes is ∙ cc e)
-one_word (v ∷ w ∷ words) word text some few is = absurd (omega arith)
-
 -- what `read_all` says of the bytes that it gives
-pub gives_all : (before now : Option (List ℕ)) (bytes items : List ℕ) → bytes ≡ items → IfSome before (λ left. items ≡ left) → IfSome before (λ _. now ≡ Some []) → GivesAll before now bytes
+pub gives_all : (before now : Option (List ℕ)) (bytes items : List ℕ) → bytes ≡ items
+    → IfSome before (λ left. items ≡ left) → IfSome before (λ _. now ≡ Some []) → GivesAll before now bytes
 gives_all None now bytes items same given ended = tt
 gives_all (Some left) now bytes items same given ended = (same ∙ given, ended)
 
 -- what it says of the bytes that it took, where the input isn't too long and where it is
-pub takes_at_most : (before now : Option (List ℕ)) (limit : ℕ) (P : Type 0) → IfSome (taken_count before now) (λ n. P ↔ (limit < n)) → (P → ⊥) → (IsSome before → IsSome now) → TakesAtMost limit before now
+pub takes_at_most : (before now : Option (List ℕ)) (limit : ℕ) (P : Type 0)
+    → IfSome (taken_count before now) (λ n. P ↔ (limit < n)) → (P → ⊥) → (IsSome before → IsSome now)
+    → TakesAtMost limit before now
 takes_at_most None now limit P counts not told = tt
 takes_at_most (Some left) None limit P counts not told = absurd (cc (told refl))
-takes_at_most (Some left) (Some now) limit P counts not told = elim (le_or_lt limit (length left - length now)) as (λ _. length left ≤ limit + length now) [
-  | inl more ↦ absurd (not (counts.1 more))
-  | inr few ↦ omega arith
-]
-  where
-    le_or_lt : (n k : ℕ) → (n < k) ⊎ (k ≤ n)
-    le_or_lt n k = grind arith
+takes_at_most (Some left) (Some now) limit P counts not told = by (le_or_lt limit (length left - length now)) where
+  le_or_lt : (n k : ℕ) → (n < k) ⊎ (k ≤ n)
+  le_or_lt n k = grind arith
 
-pub takes_more : (before now : Option (List ℕ)) (limit : ℕ) (P : Type 0) → IfSome (taken_count before now) (λ n. P ↔ (limit < n)) → P → (IsSome before → IsSome now) → TakesMore limit before now
+  by : (limit < length left - length now) ⊎ (length left - length now ≤ limit) → length left ≤ limit + length now
+  by (inl more) = absurd (not (counts.1 more))
+  by (inr few) = omega arith
+
+pub takes_more : (before now : Option (List ℕ)) (limit : ℕ) (P : Type 0)
+    → IfSome (taken_count before now) (λ n. P ↔ (limit < n)) → P → (IsSome before → IsSome now)
+    → TakesMore limit before now
 takes_more None now limit P counts long told = tt
 takes_more (Some left) None limit P counts long told = absurd (cc (told refl))
-takes_more (Some left) (Some now) limit P counts long told = let more : limit < length left - length now = counts.0 long in omega arith
+takes_more (Some left) (Some now) limit P counts long told =
+    let more : limit < length left - length now = counts.0 long in omega arith
 
--- what `words` tells of an end is no 5 and no 6
-pub words_status-small : (end : End) → words_status end ≤ 3
+-- a status that an input gets is no 5 and no 6
+words_status-small : (end : End) → words_status end ≤ 3
 words_status-small Whole = omega arith
 words_status-small (Refused word why) = omega arith
 words_status-small (Torn count) = omega arith
 
--- a sentence is whole, and its commands are those of the front
-whole_of : (bytes : List ℕ) (cs ds : List Command) (end : End) → IsSentenceInBytes cs bytes → IsEndingOfBytes bytes ds end → (ds ≡ cs) × (end ≡ Whole)
-whole_of bytes cs ds end sentence ending =
-    let come = whole_ending (words_in bytes) cs (record { well_formed = sentence.words.well_formed; words = sentence.words.words ∙ sym (append-nil (spelling_all cs)); begun = nothing_begun }) in
-    let same = one_ending (words_in bytes) ds cs ending.of_words Whole ending.ending come in
+replay_status-small : (end : ReplayEnd) → replay_status end ≤ 3
+replay_status-small (AtEnd end) = words_status-small end
+replay_status-small (AtFault command fault) = omega arith
+
+status-small : (form : Form) (bytes : List ℕ) (status : ℕ) (text : List ℕ) → IsOfInput form bytes status text
+    → status ≤ 3
+status-small Words bytes status text of = omega (arith, of.status_is, words_status-small of.end)
+status-small Replay bytes status text (replayed c is of) =
+    let end = (replay_of c.opening of.commands of.end).ending in omega (arith, of.status_is, replay_status-small end)
+status-small Replay bytes status text (no_capture place flaw is status_is text_is) = omega arith
+
+-- a sentence ends whole
+sentence_ending : (cs : List Command) (ws : List ℕ) → IsSentence cs ws → IsEnding ws cs Whole
+sentence_ending cs ws sentence = whole_ending ws cs (record {
+  well_formed = sentence.well_formed;
+  words = sentence.words ∙ sym (append-nil (spelling_all cs));
+  begun = nothing_begun;
+})
+
+-- a sentence in bytes is whole, and its commands are those of the front
+sentence_in_bytes : (bytes : List ℕ) (cs ds : List Command) (end : End) → IsSentenceInBytes cs bytes
+    → IsEndingOfBytes bytes ds end → (ds ≡ cs) × (end ≡ Whole)
+sentence_in_bytes bytes cs ds end sentence ending =
+    let whole = sentence_ending cs (words_in bytes) sentence.words in
+    let same = one_ending (words_in bytes) ds cs ending.of_words Whole ending.ending whole in
     (same.0, ending.of_bytes ∙ ap (torn_by bytes) same.1 ∙ no_rest)
   where
     no_rest : torn_by bytes Whole ≡ Whole
     no_rest = rw sentence.whole
 
+-- a run that does all acts stops at no fault
+all_done : (s : State) (acts : List Act) → done s acts ≡ length acts → stopping_fault s acts ≡ None
+all_done s acts all =
+    ap (option_and_then (fault_of (run s acts))) (slice_get_past acts (done s acts) (omega arith))
+
+-- and a replay that does all commands ends as its words do
+whole_end : (s : State) (cs : List Command) → done s (acts_of cs) ≡ length cs
+    → (replay_of s cs Whole).ending ≡ AtEnd Whole
+whole_end s cs all =
+    let no_fault = all_done s (acts_of cs) (all ∙ sym (length-map cs Do)) in
+    ap (λ fault. replay_end (done s (acts_of cs)) fault Whole) no_fault
+
+replayed_whole : (c d : Capture) (cs : List Command) (status : ℕ) (text : List ℕ) → d ≡ c → IsSentence cs c.words
+    → done c.opening (acts_of cs) ≡ length cs → IsReplayed d status text
+    → (status ≡ 0) × (text ≡ replay_text (replay_of c.opening cs Whole))
+replayed_whole c d cs status text same sentence all of =
+    let ending = subst (λ (t : Capture). IsEnding t.words of.commands of.end) same of.ending in
+    let one = one_ending c.words of.commands cs of.end Whole ending (sentence_ending cs c.words sentence) in
+    let replays : replay_of d.opening of.commands of.end ≡ replay_of c.opening cs Whole
+    = λ i. replay_of (same i).opening (one.0 i) (one.1 i) in (
+      of.status_is ∙ ap (λ r. replay_status r.ending) replays ∙ ap replay_status (whole_end c.opening cs all),
+      of.text_is ∙ ap replay_text replays,
+    )
+
+-- an input that is whole gets status 0 and its text
+told_whole : (form : Form) (bytes : List ℕ) (status : ℕ) (text due : List ℕ) → IsWholeInput form bytes due
+    → IsOfInput form bytes status text → (status ≡ 0) × (text ≡ due)
+told_whole Words bytes status text due (cs, sentence, is) of =
+    let whole = sentence_in_bytes bytes cs of.commands of.end sentence of.ending in
+    (of.status_is ∙ ap words_status whole.1, of.text_is ∙ (λ i. words_text (whole.0 i) (whole.1 i)) ∙ sym is)
+told_whole Replay bytes status text due (c, held, cs, sentence, all, is) (replayed d held_too of) =
+    let told = replayed_whole c d cs status text (cc (held, held_too)) sentence all of in
+    (told.0, told.1 ∙ sym is)
+told_whole Replay bytes status text due whole (no_capture place flaw none status_is text_is) =
+    absurd (cc (whole.1, none))
+
+-- words ask for one form
+one_form : (words : List (String Global)) (form other : Form) → AsksFor form words → AsksFor other words
+    → form ≡ other
+one_form words form other asked also = by form other (cc (asked, also)) where
+  by : (f g : Form) → form_word f ≡ form_word g → f ≡ g
+  by Words Words e = refl
+  by Words Replay e = absurd (cc e)
+  by Replay Words e = absurd (cc e)
+  by Replay Replay e = refl
+
 -- which bytes were read, where a source told these
-given : (bytes read : List ℕ) (before now : Option (List ℕ)) → before ≡ Some bytes → GivesAll before now read → read ≡ bytes
+given : (bytes read : List ℕ) (before now : Option (List ℕ)) → before ≡ Some bytes → GivesAll before now read
+    → read ≡ bytes
 given bytes read before now told gives = (subst (λ t. GivesAll t now read) told gives).0
 
-not_more : (bytes : List ℕ) (before now : Option (List ℕ)) (limit : ℕ) → before ≡ Some bytes → length bytes ≤ limit → TakesMore limit before now → ⊥
+not_more : (bytes : List ℕ) (before now : Option (List ℕ)) (limit : ℕ) → before ≡ Some bytes → length bytes ≤ limit
+    → TakesMore limit before now → ⊥
 not_more bytes before now limit told few more = by now (subst (λ t. TakesMore limit t now) told more) where
   by : (n : Option (List ℕ)) → TakesMore limit (Some bytes) n → ⊥
   by None taken = taken
@@ -93,22 +178,37 @@ not_more bytes before now limit told few more = by now (subst (λ t. TakesMore l
 is_or_not : (n k : ℕ) → (n ≡ k) ⊎ (n ≢ k)
 is_or_not n k = grind arith
 
-module _ {K : Type 0} {words : List (String Global)} {s : SourceTells} {held : K → Option (List ℕ)} {faults : K → ℕ} {before now : K} where
-  -- a sentence within the limit is told whole
-  pub run_complete : (status : ℕ) → IsRun words s held faults before now status → IsComplete words s held faults before now status
-  run_complete status run cs bytes form told few sentence steady sink_steady =
-      elim (is_or_not status 5) as (λ _. ((status ≡ 0) × Grows held faults before now (words_text cs Whole)) ⊎ (status ≡ 6)) [
-        | inl five ↦ absurd (sink_steady ((run.write_fault five).3).cause)
-        | inr not5 ↦ elim (is_or_not status 6) as (λ _. ((status ≡ 0) × Grows held faults before now (words_text cs Whole)) ⊎ (status ≡ 6)) [
-          | inl six ↦ inr six
-          | inr not6 ↦ let last = run.told not5 not6 in let zero = zero_of last.1 in inl (zero.0, subst (Grows held faults before now) zero.1 last.2)
-        ]
-      ]
+module _ {K : Type 0} {words : List (String Global)} {s : SourceTells} {held : K → Option (List ℕ)}
+    {faults : K → ℕ} {before now : K} where
+  -- an input was had, and was told what it gets
+  pub run_input : (form : Form) (bytes : List ℕ) (answer : ℕ) → AsksFor form words → WasHad s bytes
+      → TellsInput held faults before now form bytes answer → IsRun words s held faults before now answer
+  run_input form bytes answer asked was (inl (is, same)) = run_memory before now answer is (form, asked) same
+  run_input form bytes answer asked was (inr (status, text, of, told)) =
+      let small = status-small form bytes status text of in
+      run_told status answer (had form asked bytes was of) (λ e. absurd (omega arith)) (λ e. absurd (omega arith)) told
+
+  -- an input that is whole is told whole
+  pub run_complete : (status : ℕ) → IsRun words s held faults before now status
+      → IsComplete words s held faults before now status
+  run_complete status run form bytes due asked told few whole steady sink_steady =
+      by (is_or_not status 5) (is_or_not status 6)
     where
-      zero_of : {text : List ℕ} → IsDue words s status text → (status ≡ 0) × (text ≡ words_text cs Whole)
-      zero_of (usage no_form is text_is) = absurd (no_form form)
-      zero_of (listed also read gives small ds end ending is text_is) =
-          let whole = whole_of bytes cs ds end sentence (subst (λ t. IsEndingOfBytes t ds end) (given bytes read s.before s.now told gives) ending) in
-          (is ∙ ap words_status whole.1, text_is ∙ (λ i. words_text (whole.0 i) (whole.1 i)))
+      zero_of : {text : List ℕ} → IsDue words s status text → (status ≡ 0) × (text ≡ due)
+      zero_of (usage none is text_is) = absurd (none (form, asked))
+      zero_of {text} (had other also read was of) =
+          let same = given bytes read s.before s.now told was.all in
+          let of_these = subst (λ t. IsOfInput other t status text) same of in
+          let of_form = subst (λ f. IsOfInput f bytes status text) (one_form words other form also asked) of_these in
+          told_whole form bytes status text due whole of_form
       zero_of (read_fault also rose few_taken is text_is) = absurd (steady rose)
-      zero_of (too_long also more is text_is) = absurd (not_more bytes s.before s.now 134217728 told few more)
+      zero_of (too_long also more is text_is) = absurd (not_more bytes s.before s.now longest told few more)
+
+      by : (status ≡ 5) ⊎ (status ≢ 5) → (status ≡ 6) ⊎ (status ≢ 6)
+          → ((status ≡ 0) × Grows held faults before now due) ⊎ (status ≡ 6)
+      by (inl five) other = absurd (sink_steady (run.write_fault five).3.cause)
+      by (inr not5) (inl six) = inr six
+      by (inr not5) (inr not6) =
+          let last = run.told not5 not6 in
+          let zero = zero_of last.1 in
+          inl (zero.0, subst (Grows held faults before now) zero.1 last.2)

@@ -1,16 +1,12 @@
 -- What the program owes: the status and the text that are due, by its words and by what was read.
-use Rattle.std.specs.Prelude.{◌≡◌, ◌≢◌, ◌⊎◌, ℕ, ◌+◌, ◌≤◌, ◌<◌, List, [], ◌∷◌, length, codes, map, Option, Some, None, ⊤, String, string_bytes}
+use Rattle.std.specs.Prelude.{◌≡◌, ◌≢◌, ◌⊎◌, ℕ, ◌+◌, ◌≤◌, ◌<◌, List, [], length, Option, Some, None, ⊤, String}
 use Rattle.std.specs.declared.alloc.Global.{Global}
-use Rattle.svga.specs.Bytes.{IsEndingOfBytes, IsSentenceInBytes}
-use Rattle.svga.specs.Texts.{usage_text, read_fault_text, too_long_text, words_text, words_status}
-use Rattle.svga_cmd.specs.declared.command.Command.{Command}
+use Rattle.svga.specs.Forms.{AsksFor, IsAsked}
+use Rattle.svga.specs.Inputs.{IsOfInput, IsWholeInput}
+use Rattle.svga.specs.Texts.{usage_text, read_fault_text, too_long_text}
+use Rattle.svga.specs.declared.form.Form.{Form}
 use Rattle.svga_io.specs.Growing.{Grows, GrowsByPrefix}
 use Rattle.svga_io.specs.Rising.{Rises}
-use Rattle.svga_model.specs.Endings.{End, Whole}
-
--- the words after the program's name are the one word `words`
-abbrev pub AsksForWords : List (String Global) → Type 0
-AsksForWords words = map string_bytes words ≡ codes "words" ∷ []
 
 -- the longest input, in bytes
 abbrev pub longest : ℕ
@@ -45,20 +41,24 @@ TakesMore limit None now = ⊤
 TakesMore limit (Some left) None = ⊥
 TakesMore limit (Some left) (Some now) = limit + length now < length left
 
+-- the input was read to its end, and these are its bytes
+pub record WasHad (s : SourceTells) (bytes : List ℕ) : Type 0 where
+  pub all : GivesAll s.before s.now bytes
+  pub few : length bytes ≤ longest
+
 -- The status and the text that are due. Where a source tells its bytes, one case alone fits, but that a source may fail
 -- and the input be read all the same.
 pub data IsDue (words : List (String Global)) (s : SourceTells) (status : ℕ) (text : List ℕ) : Type 0 where
   -- the words are no form of the program
-  usage : (AsksForWords words → ⊥) → status ≡ 2 → text ≡ usage_text → IsDue words s status text
+  usage : (IsAsked words → ⊥) → status ≡ 2 → text ≡ usage_text → IsDue words s status text
   -- the input was read to its end: the text and the status are those of its bytes
-  listed : AsksForWords words → (bytes : List ℕ) → GivesAll s.before s.now bytes → length bytes ≤ longest
-      → (cs : List Command) (end : End) → IsEndingOfBytes bytes cs end
-      → status ≡ words_status end → text ≡ words_text cs end → IsDue words s status text
+  had : (form : Form) → AsksFor form words → (bytes : List ℕ) → WasHad s bytes → IsOfInput form bytes status text
+      → IsDue words s status text
   -- the source failed
-  read_fault : AsksForWords words → Rises s.faults_before s.faults_now → TakesAtMost longest s.before s.now
+  read_fault : IsAsked words → Rises s.faults_before s.faults_now → TakesAtMost longest s.before s.now
       → status ≡ 4 → text ≡ read_fault_text → IsDue words s status text
   -- the input is too long
-  too_long : AsksForWords words → TakesMore longest s.before s.now
+  too_long : IsAsked words → TakesMore longest s.before s.now
       → status ≡ 7 → text ≡ too_long_text → IsDue words s status text
 
 -- how a run ends with this status
@@ -69,11 +69,11 @@ pub record IsRun {K : Type 0} (words : List (String Global)) (s : SourceTells) (
   -- at status 5: the sink failed, and a prefix of a text that is due was written
   pub write_fault : status ≡ 5 → (status_due : ℕ) × (text : List ℕ) × IsDue words s status_due text × GrowsByPrefix held faults before now text
   -- at status 6: no memory was found, and nothing was written
-  pub memory : status ≡ 6 → AsksForWords words × (now ≡ before)
+  pub memory : status ≡ 6 → IsAsked words × (now ≡ before)
 
--- a sentence within the limit is told whole, unless the source or the sink fails or memory is short
+-- an input within the limit that is whole is told whole, unless the source or the sink fails or memory is short
 abbrev pub IsComplete : {K : Type 0} → List (String Global) → SourceTells → (K → Option (List ℕ)) → (K → ℕ) → K → K → ℕ → Type 0
-IsComplete words s held faults before now status = (cs : List Command) (bytes : List ℕ) → AsksForWords words
-    → s.before ≡ Some bytes → length bytes ≤ longest → IsSentenceInBytes cs bytes
+IsComplete words s held faults before now status = (form : Form) (bytes text : List ℕ) → AsksFor form words
+    → s.before ≡ Some bytes → length bytes ≤ longest → IsWholeInput form bytes text
     → (Rises s.faults_before s.faults_now → ⊥) → (Rises (faults before) (faults now) → ⊥)
-    → ((status ≡ 0) × Grows held faults before now (words_text cs Whole)) ⊎ (status ≡ 6)
+    → ((status ≡ 0) × Grows held faults before now text) ⊎ (status ≡ 6)

@@ -1,6 +1,10 @@
 pub mod Bytes
 pub mod Due
+pub mod Forms
+pub mod Inputs
 pub mod Lists
+pub mod Mapped
 pub mod Prepared
+pub mod ReplayTexts
 pub mod Telling
 pub mod Texts

@@ -1,12 +1,18 @@
-//! `svga words` lists the commands of the SVGA II FIFO that stand in its input.
+//! `svga words` lists the commands of the SVGA II FIFO that stand in its input. `svga replay` runs those of a capture
+//! and tells what they leave.
 //!
 //! All that the program does is `top`, over any source and any sink. Here it gets the standard input and output.
 #![tactic(auto)]
 
 mod bytes;
-mod cause;
 mod ended;
+mod form;
 mod listing;
+mod mapped;
+mod name;
+mod replay;
+#[cfg(test)]
+mod replay_tests;
 mod report;
 #[cfg(test)]
 mod tests;

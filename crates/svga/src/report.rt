@@ -1,19 +1,18 @@
 //! The report on an input: its commands, the last fence, and how it ends.
-ghost use Rattle.std.specs.Prelude.{◌≡◌, ◌⊎◌, ◌≤◌, ℕ, List, length, IfOk};
-ghost use Rattle.svga.specs.Bytes.{IsEndingOfBytes};
+ghost use Rattle.std.specs.Prelude.{◌≡◌, ◌≤◌, ℕ, List, length, IfOk};
+ghost use Rattle.svga.specs.Inputs.{TellsInput};
 ghost use Rattle.svga.specs.Prepared.{IsPrepared};
-ghost use Rattle.svga.specs.Telling.{Tells};
 ghost use Rattle.svga.specs.Texts.{end_text, words_status, words_text};
+ghost use Rattle.svga.specs.declared.form.Form.TheVariants as form;
 ghost use Rattle.svga_cmd.specs.declared.command.Command.{Command};
 ghost use Rattle.svga_decode.specs.Reading.{fresh};
 ghost use Rattle.svga_decode.specs.Scans.{end_of};
-ghost use Rattle.svga_model.specs.Endings.{End};
 ghost use Rattle.svga_text.specs.Passing.{Writes};
 
 use crate::bytes::{ending_of, words_of};
-use crate::cause::name_of_cause;
 use crate::ended::Ended;
 use crate::listing::list_commands;
+use crate::name::name_of_cause;
 use std::alloc::{AllocError, Global};
 use svga_decode::{Decoder, Ending, scan};
 use svga_io::{Sink, WriteFault};
@@ -29,11 +28,11 @@ pub struct Report {
     render: Render,
 }
 
-/// Writes the report on these bytes. Where there is no memory for it nothing is written, and the status is 6.
+/// Writes the report on these bytes. Where there is no memory for it nothing is written, and the
+/// status is 6.
 pub fn write_report<K: Sink>(alloc: Global, bytes: &[u8], sink: &mut K) -> Ended
     requires { length bytes.now ≤ 134217728 }
-    ensures { ((result.status ≡ 6) × (sink.new ≡ sink.old)) ⊎ ((cs : List Command) × (end : End) × IsEndingOfBytes bytes.now cs end
-        × Tells K.held K.faults sink.old sink.new (words_text cs end) (words_status end) result.status) }
+    ensures { TellsInput K.held K.faults sink.old sink.new form.Words bytes.now result.status }
 {
     let Ok(mut report) = prepare(alloc, bytes) else {
         return Ended { status: 6 };

@@ -28,7 +28,7 @@ fn run<S: Source, K: Sink>(
 }
 
 /// Runs the words on this source and this sink, and compares what was written and the status.
-fn ends<S: Source>(
+pub fn ends<S: Source>(
     rt: &(impl Abort + AllocGlobal),
     words: &[&str],
     source: &mut S,
@@ -248,7 +248,7 @@ fn a_source_of_single_bytes(rt: HostRuntime) -> Result<(), Fail> {
 fn words_of_no_form(rt: HostRuntime) -> Result<(), Fail> {
     let alloc = rt.alloc();
     let usage = "usage: svga words | replay | race | gen N\n";
-    let forms: [&[&str]; 4] = [&[], &["words", "words"], &["--help"], &["replay"]];
+    let forms: [&[&str]; 4] = [&[], &["words", "words"], &["--help"], &["race"]];
     for words in forms {
         let mut source = CleanSource::new(Vec::new(alloc), 1);
         let mut sink = MemSink::new(alloc, 64, Vec::new(alloc))?;

@@ -1,9 +1,13 @@
 //! The top call: all that the program does, over any source and any sink.
-ghost use Rattle.std.specs.Prelude.{◌≡◌, ◌↔◌, IsTrue, string_bytes, codes};
-ghost use Rattle.svga.specs.Due.{AsksForWords, IsComplete, IsRun, source_tells};
+ghost use Rattle.std.specs.Prelude.{◌≡◌, ◌≤◌, length};
+ghost use Rattle.svga.specs.Due.{IsComplete, IsRun, source_tells};
+ghost use Rattle.svga.specs.Forms.{IsAsked};
+ghost use Rattle.svga.specs.Inputs.{TellsInput};
 ghost use Rattle.svga.specs.Telling.{Tells};
 
 use crate::ended::Ended;
+use crate::form::{Form, form_of};
+use crate::replay::write_replay;
 use crate::report::write_report;
 use std::alloc::Global;
 use svga_io::{InFault, Sink, Source, read_all, write_all};
@@ -11,7 +15,8 @@ use svga_io::{InFault, Sink, Source, read_all, write_all};
 /// The longest input, in bytes.
 const LIMIT: usize = 134217728;
 
-/// Runs the program with these words on this source and this sink, and answers the status with which it ends.
+/// Runs the program with these words on this source and this sink, and answers the status with which
+/// it ends.
 pub fn top<S: Source, K: Sink>(
     alloc: Global,
     words: &[String],
@@ -23,9 +28,10 @@ pub fn top<S: Source, K: Sink>(
         K.held K.faults sink.old sink.new result.status }
 
     // Nothing is read where the words are no form.
-    ensures unread { (AsksForWords words.now → ⊥) → source.new ≡ source.old }
+    ensures unread { (IsAsked words.now → ⊥) → source.new ≡ source.old }
 
-    // A sentence within the limit is told whole, unless the source or the sink fails or memory is short.
+    // An input within the limit that is whole is told whole, unless the source or the sink fails or
+    // memory is short.
     ensures complete { IsComplete words.now (source_tells S.left S.faults source.old source.new)
         K.held K.faults sink.old sink.new result.status }
 {
@@ -44,36 +50,33 @@ pub fn top_plain<S: Source, K: Sink>(
         K.held K.faults sink.old sink.new result.status }
 
     // Nothing is read where the words are no form.
-    ensures unread { (AsksForWords words.now → ⊥) → source.new ≡ source.old }
+    ensures unread { (IsAsked words.now → ⊥) → source.new ≡ source.old }
 
-    // A sentence within the limit is told whole, unless the source or the sink fails or memory is short.
+    // An input within the limit that is whole is told whole, unless the source or the sink fails or
+    // memory is short.
     ensures complete { IsComplete words.now (source_tells S.left S.faults source.old source.new)
         K.held K.faults sink.old sink.new result.status }
 {
-    if !is_words(words) {
+    let Some(form) = form_of(words) else {
         return tell(sink, "usage: svga words | replay | race | gen N\n", 2);
-    }
+    };
     match read_all(alloc, source, LIMIT) {
-        Ok(bytes) => write_report(alloc, &bytes, sink),
+        Ok(bytes) => write_input(alloc, form, &bytes, sink),
         Err(InFault::ReadFault) => tell(sink, "read fault\n", 4),
         Err(InFault::TooLong) => tell(sink, "too long\n", 7),
         Err(InFault::Memory) => Ended { status: 6 },
     }
 }
 
-fn is_words(words: &[String]) -> bool
-    ensures { IsTrue result ↔ AsksForWords words.now }
+// Writes what this form says of these bytes.
+fn write_input<K: Sink>(alloc: Global, form: Form, bytes: &[u8], sink: &mut K) -> Ended
+    requires { length bytes.now ≤ 134217728 }
+    ensures { TellsInput K.held K.faults sink.old sink.new form bytes.now result.status }
 {
-    match words {
-        [word] => is_words_word(word),
-        _ => false,
+    match form {
+        Form::Words => write_report(alloc, bytes, sink),
+        Form::Replay => write_replay(alloc, bytes, sink),
     }
-}
-
-fn is_words_word(word: &String) -> bool
-    ensures { IsTrue result ↔ (string_bytes word.now ≡ codes "words") }
-{
-    word.as_str() == "words"
 }
 
 // Writes a text that ends the run with this status.

@@ -46,7 +46,7 @@ left_by p ending = record {
 }
 
 -- what stands at the front begins the whole front
-front_extends : (ws : List ℕ) (cs ds : List Command) → IsFront ws cs → StandAtFront ds ws
+pub front_extends : (ws : List ℕ) (cs ds : List Command) → IsFront ws cs → StandAtFront ds ws
     → cs ≡ ds ++ drop (length ds) cs
 front_extends ws cs ds whole stands =
     sym (take-append-drop (length ds) cs)
