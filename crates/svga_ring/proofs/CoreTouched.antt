@@ -1,0 +1,85 @@
+-- What a command touches is a page of the device.
+use Rattle.std.proofs.Common.{◌≡◌, ℕ, List, [], ◌∷◌, ◌++◌, All, Bool, true, false, cond, ◌||◌, nat_lt, ◌==◌, Option, Some, None, IfSome, option_and_then, unwrap_or, refl, sym, subst, ◌∙◌}
+use Rattle.std.proofs.lemmas.List.Elements.{All-head, All-nil, All-tail}
+use Rattle.std.specs.FinMap as map
+use Rattle.std.specs.Ordering.{eq_by_cmp}
+use Rattle.svga_cmd.proofs.KeyLaws.{keys_exact, keys_total}
+use Rattle.svga_cmd.proofs.Maps.{one_key}
+use Rattle.svga_cmd.specs.Limits.{AreLimits, frame_page_count}
+use Rattle.svga_cmd.specs.Pages.{IsKey, key_cmp}
+use Rattle.svga_cmd.specs.declared.command.Command.{Command}
+use Rattle.svga_cmd.specs.declared.limits.Limits.{Limits}
+use Rattle.svga_cmd.specs.declared.page.PageKey.{PageKey}
+use Rattle.svga_cmd.specs.declared.page.PageKey.TheVariants.{Frame}
+use Rattle.svga_model.proofs.ValidRules.{all_made}
+use Rattle.svga_model.proofs.ValidRuns.{run_good}
+use Rattle.svga_model.proofs.ValidStateLaws.{opening_good, step_limits}
+use Rattle.svga_model.specs.Acts.{Act, Do, IsAct}
+use Rattle.svga_model.specs.Regions.{Places, Regions, defined_places, frame_places, frame_region, places_of}
+use Rattle.svga_model.specs.Runs.{run}
+use Rattle.svga_model.specs.States.{State, frame_pages, opening_state}
+use Rattle.svga_model.specs.Touches.{Touches, has_page, touched_places, touched_region}
+use Rattle.svga_model.specs.ValidStates.{ArePlaces, AreRegions, IsState}
+use Rattle.svga_ring.proofs.CoreAppend.{all_front}
+use Rattle.svga_ring.proofs.CoreRuns.{run_keeps}
+
+-- The places of each region are pages of the device: of none,
+defined_keys : (l : Limits) (above : Bool) (o : Option Places) → IfSome o (ArePlaces l)
+    → ArePlaces l (unwrap_or (cond above None o) [])
+defined_keys l true o are = All-nil (λ place. IfSome place (IsKey l))
+defined_keys l false None are = All-nil (λ place. IfSome place (IsKey l))
+defined_keys l false (Some places) are = are
+
+-- of the framebuffer's,
+frame_keys : (l : Limits) → ArePlaces l (frame_places (frame_page_count l))
+frame_keys l =
+    all_made (λ place. IfSome place (IsKey l)) (λ g. Some (Frame g)) (frame_page_count l) (λ k low. low)
+
+-- and of any.
+region_keys : (l : Limits) (regions : Regions) (id : ℕ) → AreRegions l regions
+    → ArePlaces l (unwrap_or (places_of (frame_page_count l) regions id) [])
+region_keys l regions id are = at (id == frame_region) where
+  at : (t : Bool)
+      → ArePlaces l (unwrap_or (cond t (Some (frame_places (frame_page_count l))) (defined_places regions id)) [])
+  at true = frame_keys l
+  at false = defined_keys l (nat_lt 4095 id) (map.get regions id) (are.each id)
+
+touched_keys : (s : State) (c : Command) → IsState s → ArePlaces s.kept.limits (touched_places s.kept c)
+touched_keys s c is = at (touched_region s.kept.gmrfb c) where
+  at : (region : Option ℕ)
+      → ArePlaces s.kept.limits (unwrap_or (option_and_then (places_of (frame_pages s.kept) s.kept.regions) region) [])
+  at None = All-nil (λ place. IfSome place (IsKey s.kept.limits))
+  at (Some id) = region_keys s.kept.limits s.kept.regions id is.kept.regions
+
+-- so a page of such places is one of the device
+more_key : (l : Limits) (other : PageKey) (places : Places) (key : PageKey) (same : Bool)
+    → eq_by_cmp key_cmp key other ≡ same → IsKey l other → (same || has_page places key) ≡ true
+    → (has_page places key ≡ true → IsKey l key) → IsKey l key
+more_key l other places key true same is has rest =
+    subst (IsKey l) (sym (one_key keys_total keys_exact key other same)) is
+more_key l other places key false same is has rest = rest has
+
+page_key : (l : Limits) (places : Places) (key : PageKey) → ArePlaces l places → has_page places key ≡ true
+    → IsKey l key
+unfolding has_page
+page_key l [] key are has = absurd (cc has)
+page_key l (None ∷ places) key are has =
+    page_key l places key (All-tail (λ place. IfSome place (IsKey l)) None places are) has
+page_key l (Some other ∷ places) key are has =
+    let here : IsKey l other = All-head (λ place. IfSome place (IsKey l)) (Some other) places are in
+    let rest : ArePlaces l places = All-tail (λ place. IfSome place (IsKey l)) (Some other) places are in
+    more_key l other places key (eq_by_cmp key_cmp key other) refl here has (page_key l places key rest)
+
+-- what a command touches where some of the acts were run is a page of the device
+pub touched_key : (l : Limits) (first : ℕ) (front rest : List Act) (c : Command) (key : PageKey) → AreLimits l
+    → All (IsAct l) (front ++ rest) → Touches (run (opening_state l first) front) (Do c) key → IsKey l key
+touched_key l first front rest c key limits all touched =
+    let s : State = run (opening_state l first) front in
+    let good : IsState s =
+    run_good (opening_state l first) front (opening_good l first limits) (all_front (IsAct l) front rest all) in
+    let is : IsKey s.kept.limits key =
+    page_key s.kept.limits (touched_places s.kept c) key (touched_keys s c good) touched in
+    let same : s.kept.limits ≡ l =
+    run_keeps (λ (t : State). t.kept.limits ≡ l) (λ t act e. step_limits t act ∙ e) (opening_state l first) front
+    refl in
+    subst (λ m. IsKey m key) same is

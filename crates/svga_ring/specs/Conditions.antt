@@ -1,0 +1,121 @@
+-- When a seat may make each step: said of the seat's own view, of which seats there are, and for a join of what the device's
+-- view had come to.
+use Rattle.std.specs.Prelude.{◌≡◌, ◌≢◌, ℕ, ◌+◌, ◌<◌, ◌≤◌, ◌^◌, List, [], ◌++◌, length, drop, false, true, Some, None}
+use Rattle.std.specs.FinSet as set
+use Rattle.svga_cmd.specs.Pages.{IsKey, IsPage, page_at}
+use Rattle.svga_cmd.specs.Spelling.{Spells, spelling}
+use Rattle.svga_cmd.specs.declared.command.Command.{Command}
+use Rattle.svga_cmd.specs.declared.command.Command.TheVariants.{Fence}
+use Rattle.svga_cmd.specs.declared.page.PageKey.{PageKey}
+use Rattle.svga_cmd.specs.declared.session.Way.{Way}
+use Rattle.svga_cmd.specs.declared.session.Way.TheVariants.{Reserve, Dword}
+use Rattle.svga_model.specs.Acts.{Act, Do, Chain}
+use Rattle.svga_model.specs.Faults.{IsAdmissible}
+use Rattle.svga_model.specs.Fences.{number_of_fence}
+use Rattle.svga_model.specs.Runs.{run}
+use Rattle.svga_model.specs.Sentences.{spelling_all}
+use Rattle.svga_model.specs.States.{State, opening_state}
+use Rattle.svga_model.specs.Steps.{step}
+use Rattle.svga_model.specs.Touches.{Touches}
+use Rattle.svga_ring.specs.Committed.{commands, fences}
+use Rattle.svga_ring.specs.Core.{Commit, Core, Event, Give, GiveBack, HeldSlotHome, HeldSlotOut, Hold, Join, LoadCell, LoadConfig, LoadFence, LoadNext, LoadStop, SendMore, SlotHome, SlotOut, Split, StoreCell, StoreConfig, StoreFence, StoreStop, Take, TakeJoined, put_count, read_count}
+use Rattle.svga_ring.specs.Layouts.{ring_dwords, word_address}
+use Rattle.svga_ring.specs.Noting.{MayHold, given_back, holds, known_state}
+use Rattle.svga_ring.specs.Requests.{is_ring_request}
+use Rattle.svga_ring.specs.SoundPages.{TouchesAt, driver_place}
+use Rattle.svga_ring.specs.Views.{Apart, DeviceView, DriverView, Joined, Opening}
+
+-- the state before all acts
+abbrev pub first_state : DriverView → State
+first_state d = opening_state d.terms.limits d.terms.first
+
+-- the words of the commands that aren't sent
+abbrev pub unsent : DriverView → List ℕ
+unsent d = drop (length d.sent) (spelling_all (commands d.acts))
+
+-- no request is open to the driver
+abbrev pub NoneOpen : DriverView → Type 0
+NoneOpen d = d.request.number ≡ d.reply_loads.last
+
+-- some words at the front of others
+abbrev pub IsFrontOf : List ℕ → List ℕ → Type 0
+IsFrontOf front ws = (front ≢ []) × ((rest : List ℕ) × (ws ≡ front ++ rest))
+
+-- the pending words are those of the command: all of them, or by dword some at the front
+abbrev pub ArePending : Way → List ℕ → Command → Type 0
+ArePending Reserve pending c = pending ≡ spelling c
+ArePending Dword pending c = IsFrontOf pending (spelling c)
+
+-- a FENCE has the next number, and fewer than 65,536 are past those seen
+abbrev pub IsNextFence : ℕ → List Command → ℕ → Command → Type 0
+IsNextFence first cs seen (Fence value) = (value ≡ number_of_fence first (length (fences cs))) × (length (fences cs) < seen + 65536)
+IsNextFence first cs seen c = Unit {0}
+
+-- the command may be committed
+pub record MayCommit (d : DriverView) (c : Command) : Type 0 where
+  pub all_sent : unsent d ≡ []
+  pub spelled : Spells c (spelling c)
+  pub pending : ArePending d.terms.way d.pending c
+  pub none_open : NoneOpen d
+  pub admissible : IsAdmissible (run (first_state d) d.acts) (Do c)
+  pub pages_lent : (key : PageKey) → Touches (run (first_state d) d.acts) (Do c) key → set.contains d.lent key ≡ true
+  pub fence : IsNextFence d.terms.first (commands d.acts) d.seen c
+
+-- a word more fits
+pub record MayStoreCell (d : DriverView) : Type 0 where
+  pub runs : d.stopped ≡ false
+  pub room : put_count d + 1 < d.stop + ring_dwords d.layout
+  pub short : put_count d < 2 ^ 62
+
+-- no slot is out with the driver
+abbrev pub NoSlotOut : DriverView → Type 0
+NoSlotOut d = (key : PageKey) → set.contains d.out key ≡ false
+
+-- a page that is lent may be taken: no request is open, and no command from the driver's place on touches it
+pub record MayTake (d : DriverView) (key : PageKey) : Type 0 where
+  pub lent : set.contains d.lent key ≡ true
+  pub none_out : NoSlotOut d
+  pub none_open : NoneOpen d
+  pub untouched : (n : ℕ) → driver_place d.acts d.passed d.seen ≤ n → TouchesAt (first_state d) d.acts n key → ⊥
+
+-- the act that the device has in hand: the command that it read, or else the chain that it loaded and hasn't answered
+pub data IsInHand (e : DeviceView) : Act → Type 0 where
+  read_command : (c : Command) → Spells c e.read → IsInHand e (Do c)
+  loaded_chain : e.read ≡ [] → e.wanted.number ≢ e.answered → is_ring_request e.wanted ≡ false
+      → IsInHand e (Chain e.wanted.id e.wanted.descriptor)
+
+-- the command in hand is served: no page is held any more, each page that it touches is given back as it leaves it, and its
+-- fence is stored, if it is one
+pub record IsServed (e : DeviceView) (c : Command) : Type 0 where
+  pub read_whole : Spells c e.read
+  pub none_held : (key : PageKey) → holds e.noted key ≡ false
+  pub given : (key : PageKey) → Touches (known_state e) (Do c) key → given_back e.noted key ≡ page_at (step (known_state e) (Do c)).memory key
+  pub all_given : (key : PageKey) → Touches (known_state e) (Do c) key → given_back e.noted key ≢ None
+  pub fence : (value : ℕ) → c ≡ Fence value → e.stored ≡ true
+
+-- the condition of each step
+abbrev pub Can : Event → Core → Type 0
+Can Split c = c.seats ≡ Opening
+Can LoadStop c = c.seats ≡ Apart
+Can (StoreCell word) c = (c.seats ≡ Apart) × MayStoreCell c.driver
+Can (Commit command) c = (c.seats ≡ Apart) × MayCommit c.driver command
+Can SendMore c = (c.seats ≡ Apart) × IsFrontOf c.driver.pending (unsent c.driver)
+Can LoadNext c = c.seats ≡ Apart
+Can LoadCell c = (c.seats ≡ Apart) × (read_count c.device < c.device.next) × ((command : Command) → Spells command c.device.read → ⊥)
+Can (StoreStop command) c = (c.seats ≡ Apart) × IsServed c.device command
+Can LoadFence c = c.seats ≡ Apart
+Can (StoreFence value) c = (c.seats ≡ Apart) × Spells (Fence value) c.device.read
+Can (Give key bytes) c = (c.seats ≡ Apart) × (set.contains c.driver.out key ≡ true) × IsKey c.driver.terms.limits key × IsPage bytes
+Can (Take key) c = (c.seats ≡ Apart) × IsKey c.driver.terms.limits key × MayTake c.driver key
+Can (SlotOut key) c = (c.seats ≡ Apart) × IsKey c.driver.terms.limits key × (set.contains c.driver.lent key ≡ false) × NoSlotOut c.driver
+Can (SlotHome key) c = (c.seats ≡ Apart) × IsKey c.driver.terms.limits key × (set.contains c.driver.out key ≡ true)
+Can (Hold key act) c = (c.seats ≡ Apart) × IsKey c.device.terms.limits key × IsInHand c.device act × MayHold c.device act key
+    × (holds c.device.noted key ≡ false) × (c.device.out ≡ None)
+Can (GiveBack key bytes) c = (c.seats ≡ Apart) × IsKey c.device.terms.limits key × (c.device.out ≡ Some key) × IsPage bytes
+Can (HeldSlotOut key) c = (c.seats ≡ Apart) × IsKey c.device.terms.limits key × (holds c.device.noted key ≡ true) × (c.device.out ≡ None)
+Can (HeldSlotHome key) c = (c.seats ≡ Apart) × IsKey c.device.terms.limits key × (c.device.out ≡ Some key)
+Can StoreConfig c = (c.seats ≡ Apart) × NoneOpen c.driver × (c.driver.pending ≡ [])
+Can LoadConfig c = c.seats ≡ Apart
+Can Join c = (c.seats ≡ Apart) × (c.device.saw_stopped ≡ true) × (c.device.drained ≡ true)
+    × (c.device.next_loads.last ≡ word_address c.device.layout (length c.device.taken))
+Can (TakeJoined key) c = (c.seats ≡ Joined) × IsKey c.driver.terms.limits key × (set.contains c.driver.lent key ≡ true)
