@@ -11,6 +11,7 @@ use Rattle.svga_cmd.specs.declared.fault.Fault.{Fault}
 use Rattle.svga_cmd.specs.declared.limits.Limits.{Limits}
 use Rattle.svga_cmd.specs.declared.page.PageKey.{PageKey}
 use Rattle.svga_model.proofs.PutLaws.{with_page-has}
+use Rattle.svga_model.proofs.TouchedKeys.{touched_keys}
 use Rattle.svga_model.proofs.ValidMemory.{pages_put, same_keys}
 use Rattle.svga_model.proofs.ValidStateLaws.{opening_good, step_good, step_keys, step_limits}
 use Rattle.svga_model.specs.Acts.{Do}
@@ -21,7 +22,7 @@ use Rattle.svga_model.specs.Touches.{touched_places}
 use Rattle.svga_model.specs.ValidStates.{IsState}
 use Rattle.svga_machine.specs.MachineSet.{MachineSet, state_with}
 use Rattle.svga_machine.specs.Touched.{HasTouched}
-use Rattle.svga_machine.proofs.StoreLaws.{HasAll, has_pages, touched_keys}
+use Rattle.svga_machine.proofs.StoreLaws.{HasAll, has_pages}
 
 -- a valid state of a device with these limits, with all of its pages
 abbrev pub IsServed : Limits → State → Type 0

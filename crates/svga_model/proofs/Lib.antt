@@ -30,6 +30,7 @@ pub mod TouchPages
 pub mod TouchPuts
 pub mod TouchWalks
 pub mod TouchWrites
+pub mod TouchedKeys
 pub mod Turns
 pub mod ValidChains
 pub mod ValidColours

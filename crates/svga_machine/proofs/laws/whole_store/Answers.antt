@@ -1,5 +1,6 @@
+use Rattle.svga_model.proofs.TouchedKeys.{touched_keys}
 use Rattle.svga_model.specs.Touches.{touched_places}
-use Rattle.svga_machine.proofs.StoreLaws.{has_pages, touched_keys}
+use Rattle.svga_machine.proofs.StoreLaws.{has_pages}
 use Rattle.svga_machine.proofs.laws.whole_store.Goals as goal
 
 pub returns : goal.returns
