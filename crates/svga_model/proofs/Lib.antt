@@ -9,6 +9,7 @@ pub mod GrammarLengths
 pub mod GrammarPrefixes
 pub mod GrammarSpelled
 pub mod GrammarTable
+pub mod MeaningLaws
 pub mod OnlyOthers
 pub mod OnlyPlaces
 pub mod OnlyRuns

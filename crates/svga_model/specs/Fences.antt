@@ -1,5 +1,7 @@
 -- The numbers of fences, the register FENCE, and when a fence has passed.
-use Rattle.std.specs.Prelude.{ℕ, ◌+◌, ◌-◌, ◌%◌, ◌^◌, ◌<◌, ◌≤◌, ◌==◌, if◌then◌else◌}
+use Rattle.std.specs.Prelude.{ℕ, ◌+◌, ◌-◌, ◌%◌, ◌^◌, ◌<◌, ◌≤◌, List, filter_map, ◌==◌, if◌then◌else◌, Option, Some, None}
+use Rattle.svga_cmd.specs.declared.command.Command.{Command}
+use Rattle.svga_cmd.specs.declared.command.Command.TheVariants.{Fence}
 
 -- a number that a fence can have: 1 to 2 ^ 32 - 1, since 0 is none
 pub record IsFenceNumber (n : ℕ) : Type 0 where
@@ -30,3 +32,12 @@ LooksPassed register fence = difference register fence < 2 ^ 31
 pub record AreNear (j k : ℕ) : Type 0 where
   pub ahead : j ≤ k + 65536
   pub behind : k ≤ j + 65536
+
+-- the number that a FENCE sends
+abbrev pub fence_value : Command → Option ℕ
+fence_value (Fence value) = Some value
+fence_value c = None
+
+-- the numbers of the fences among commands, in order
+abbrev pub fences : List Command → List ℕ
+fences cs = filter_map fence_value cs

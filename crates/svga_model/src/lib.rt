@@ -9,8 +9,10 @@ mod examples;
 mod faults;
 mod fences;
 mod grammar;
+mod meanings;
 mod pixels;
 mod runs;
+mod scripts;
 mod states;
 mod touches;
 
@@ -23,10 +25,12 @@ pub use examples::{
 pub use faults::{fault_of_act, judged_without_bytes, least_fault};
 pub use fences::fence_order;
 pub use grammar::{one_ending, refused_word, viable_words};
+pub use meanings::meaning_in_parts;
 pub use pixels::{
     narrowed_colour, no_pixels, painted_pixels, pixels_at_a_corner, pixels_of_a_far_screen,
     pixels_of_two_screens,
 };
 pub use runs::{replay_within_regions, run_in_parts, run_over_only};
+pub use scripts::{small_meanings, small_scripts};
 pub use states::{put_alone, valid_states};
 pub use touches::{puts_commute, touched_pages};

@@ -66,6 +66,10 @@ pub commands_put : (acts : List Act) (key : PageKey) (bytes : List ℕ)
     → commands (acts ++ Put key bytes ∷ []) ≡ commands acts
 commands_put acts key bytes = commands-append acts (Put key bytes ∷ []) ∙ append-nil (commands acts)
 
+-- nor is a chain
+pub commands_chain : (acts : List Act) (id first : ℕ) → commands (acts ++ Chain id first ∷ []) ≡ commands acts
+commands_chain acts id first = commands-append acts (Chain id first ∷ []) ∙ append-nil (commands acts)
+
 -- what a command touches at its place
 pub touches_still : (s : State) (acts more : List Act) (n : ℕ) (key : PageKey) → TouchesAt s acts n key
     → TouchesAt s (acts ++ more) n key
@@ -76,7 +80,7 @@ touches_still s acts more n key touched =
       subst (λ l. Touches (run s l) (Do touched.0) key) (sym (before_append acts more n low)) touched.2,
     )
 
-touches_before : (s : State) (acts more : List Act) (n : ℕ) (key : PageKey) → n < length (commands acts)
+pub touches_before : (s : State) (acts more : List Act) (n : ℕ) (key : PageKey) → n < length (commands acts)
     → TouchesAt s (acts ++ more) n key → TouchesAt s acts n key
 touches_before s acts more n key low touched = (
   touched.0,
@@ -282,4 +286,5 @@ requests_more more last o = record {
   out_is_last_chain = λ out. last out (o.out_is_last_chain out);
   loaded_is = o.loaded_is;
   reserved_is = o.reserved_is;
+  fits = o.fits;
 }

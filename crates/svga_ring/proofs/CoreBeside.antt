@@ -6,7 +6,7 @@ use Rattle.svga_cmd.specs.declared.limits.Limits.{Limits}
 use Rattle.svga_cmd.specs.declared.page.PageKey.{PageKey}
 use Rattle.svga_cmd.specs.declared.session.Session.{Session}
 use Rattle.svga_model.specs.Acts.{Act}
-use Rattle.svga_model.specs.States.{State}
+use Rattle.svga_model.specs.States.{Kept, State}
 use Rattle.svga_ring.proofs.CoreCells.{fixed_set, open_behind, place_beside}
 use Rattle.svga_ring.proofs.CoreFences.{fences_beside}
 use Rattle.svga_ring.specs.Core.{Core}
@@ -18,6 +18,7 @@ use Rattle.svga_ring.specs.Sound.{IsSoundOfWords}
 use Rattle.svga_ring.specs.SoundPages.{AreAtPlaces}
 use Rattle.svga_ring.specs.SoundRequests.{AreRequests}
 use Rattle.svga_ring.specs.SoundStops.{IsStopping}
+use Rattle.svga_ring.specs.Views.{Loads}
 
 -- What is sound of words speaks of no word behind the FIFO, and neither of pages nor of stopping.
 pub words_beside : {k : Session} {c : Core} {homes : List Home} {lent driver_out : FinSet key_cmp} {stopped : Bool}
@@ -40,6 +41,24 @@ words_beside {c = c} i x behind o =
           (get_or-set_other c.words i fence_word x 0 (omega (arith, behind))) o.fences;
       acts = o.acts;
     }
+
+-- nor does it speak of requests, of their loads, or of what is kept,
+pub words_asked : {k : Session} {c : Core} {request wanted : Request} {reserved answered : ℕ}
+    {reply_loads request_loads : Loads} {kept : Kept} → IsSoundOfWords k c
+    → IsSoundOfWords k (record c {
+      driver = record c.driver { request = request; reserved = reserved; reply_loads = reply_loads };
+      device = record c.device { kept = kept; wanted = wanted; answered = answered; request_loads = request_loads };
+    })
+words_asked o = record {
+  session = o.session;
+  order = o.order;
+  place = o.place;
+  fixed = o.fixed;
+  known = o.known;
+  loads = o.loads;
+  fences = o.fences;
+  acts = o.acts;
+}
 
 -- What is said of pages speaks of their words alone,
 pub places_beside : {l : Limits} {words : List ℕ} {homes : List Home} {s : State} {lent driver_out : FinSet key_cmp}
@@ -72,6 +91,7 @@ requests_beside {words = words} i x no_request no_reply no_reserved o = record {
   out_is_last_chain = o.out_is_last_chain;
   loaded_is = o.loaded_is;
   reserved_is = get_or-set_other words i reserved_word x 0 (λ e. no_reserved (sym e)) ∙ o.reserved_is;
+  fits = o.fits;
 }
 
 -- and what is said of stopping of CONFIG_DONE.

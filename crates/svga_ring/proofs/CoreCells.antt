@@ -79,6 +79,7 @@ place_beside {lay = lay} {words = words} i x is beside o = record {
       get_or-set_other words i (word_cell lay n) x 0 (omega (arith, beside.1, cell.least, cell.in_fifo))
       ∙ o.cells n low high
       );
+  dwords = o.dwords;
   short = o.short;
 }
 
@@ -100,6 +101,7 @@ place_sent lay words sent pending taken stop x is wide here o =
       cells = λ n low high. get_or-set_other words next_word (word_cell lay n) x 0
           (not_cell lay n next_word is (omega arith))
           ∙ o.cells n low (omega (arith, high, longer)) ∙ ap (λ l. get_or l n 0) (sym (append-nil (sent ++ pending)));
+      dwords = λ n less. subst (λ l. get_or l n 0 < 2 ^ 32) (sym (append-nil (sent ++ pending))) (o.dwords n (omega (arith, less, longer)));
       short = omega (arith, o.short, longer);
     }
 
@@ -121,6 +123,7 @@ place_taken lay words sent pending taken read stop x is wide here o =
       cells = λ n low high. get_or-set_other words stop_word (word_cell lay n) x 0
           (not_cell lay n stop_word is (omega arith))
           ∙ o.cells n (omega (arith, low, longer)) high;
+      dwords = o.dwords;
       short = o.short;
     }
 
@@ -143,10 +146,10 @@ earlier_word sent pending x n less =
 pub place_cell : (lay : Layout) (words sent pending taken : List ℕ) (stop i x : ℕ) → IsLayout lay → 65536 < length words
     → i ≡ word_cell lay (length sent + length pending)
     → length sent + length pending + 1 < stop + ring_dwords lay → length sent + length pending < 2 ^ 62
-    → length taken ≤ length sent
+    → length taken ≤ length sent → x < 2 ^ 32
     → AreInPlace lay words sent pending taken stop
     → AreInPlace lay (slice_set words i x) sent (pending ++ x ∷ []) taken stop
-place_cell lay words sent pending taken stop i x is wide here room short behind o = record {
+place_cell lay words sent pending taken stop i x is wide here room short behind fits o = record {
   next_is = get_or-set_other words i next_word x 0 (λ e. register next_word (omega arith) (sym e)) ∙ o.next_is;
   stop_is = get_or-set_other words i stop_word x 0 (λ e. register stop_word (omega arith) (sym e)) ∙ o.stop_is;
   max_is = get_or-set_other words i max_word x 0 (λ e. register max_word (omega arith) (sym e)) ∙ o.max_is;
@@ -157,6 +160,10 @@ place_cell lay words sent pending taken stop i x is wide here room short behind 
     | inl less ↦ get_or-set_other words i (word_cell lay n) x 0 (apart n low less) ∙ o.cells n low less
         ∙ sym (earlier_word sent pending x n less)
     | inr past ↦ stored n (omega (arith, past, high, longer))
+  ];
+  dwords = λ n less. elim (cases_lt n (length sent + length pending)) as (λ _. get_or (sent ++ (pending ++ x ∷ [])) n 0 < 2 ^ 32) [
+    | inl low ↦ subst (λ w. w < 2 ^ 32) (sym (earlier_word sent pending x n low)) (o.dwords n low)
+    | inr past ↦ subst (λ w. w < 2 ^ 32) (sym (last_word sent pending x n (omega (arith, past, less, longer)))) fits
   ];
   short = omega (arith, short, longer);
 }

@@ -10,7 +10,7 @@ use Rattle.svga_cmd.specs.declared.page.PageKey.{PageKey}
 use Rattle.svga_cmd.specs.declared.session.Session.{Session}
 use Rattle.svga_cmd.specs.declared.session.Way.{Way}
 use Rattle.svga_model.proofs.GrammarSpelled.{spelled_some}
-use Rattle.svga_model.specs.Fences.{register_after}
+use Rattle.svga_model.specs.Fences.{fences, register_after}
 use Rattle.svga_model.specs.Memories.{page_bytes}
 use Rattle.svga_model.specs.Runs.{run}
 use Rattle.svga_model.specs.States.{State, opening_state}
@@ -25,7 +25,7 @@ use Rattle.svga_ring.proofs.CoreNoted.{back_unnoted, held_unnoted, none_noted}
 use Rattle.svga_ring.proofs.CorePageSteps.{key_of, moved}
 use Rattle.svga_ring.proofs.CorePlaces.{found_at_home, not_out, pages_take, word_at_home}
 use Rattle.svga_ring.proofs.CoreSettled.{settled_all}
-use Rattle.svga_ring.specs.Committed.{commands, fences}
+use Rattle.svga_ring.specs.Committed.{commands}
 use Rattle.svga_ring.specs.Conditions.{Can}
 use Rattle.svga_ring.specs.Core.{Core, Join, Split, StoreConfig, TakeJoined, after}
 use Rattle.svga_ring.specs.Layouts.{Layout, word_address}
@@ -60,7 +60,7 @@ keeps_split k c o opening =
       runs = o.runs;
       requests = o.requests;
       stops = o.stops;
-      unasked = o.unasked;
+      reserving = o.reserving;
       opening = λ e. absurd (cc e);
       one_slot = λ apart. o.one_slot (λ e. absurd (cc (opening, e)));
       joined = λ e. absurd (cc e);
@@ -87,7 +87,7 @@ keeps_store_config k c o can = record {
   runs = o.runs;
   requests = requests_beside config_word 0 (omega arith) (omega arith) (omega arith) o.requests;
   stops = stops_config (omega (arith, o.of_words.fixed.length_is)) can.2 can.1 o.stops;
-  unasked = o.unasked;
+  reserving = o.reserving;
   opening = λ q. absurd (let apart = can.0 in cc (apart, q));
   one_slot = o.one_slot;
   joined = λ q. absurd (let apart = can.0 in cc (apart, q));
@@ -205,7 +205,7 @@ keeps_take_joined k c key o can =
       runs = o.runs;
       requests = requests_beside i 3 (omega arith) (omega arith) (omega arith) o.requests;
       stops = stops_beside i 3 (omega arith) o.stops;
-      unasked = o.unasked;
+      reserving = o.reserving;
       opening = λ q. absurd (let joined = can.0 in cc (joined, q));
       one_slot = λ apart. absurd (apart can.0);
       joined = λ q. record {
@@ -279,6 +279,7 @@ module _ (k : Session) (c : Core) (o : IsSound k c) (can : Can Join c) where
           known_stop = omega arith;
           room = omega (arith, place.room, place.known_stop);
           cells = place.cells;
+          dwords = place.dwords;
           short = place.short;
         };
         fixed = words.fixed;
@@ -296,7 +297,7 @@ module _ (k : Session) (c : Core) (o : IsSound k c) (can : Can Join c) where
     runs = o.runs;
     requests = o.requests;
     stops = o.stops;
-    unasked = o.unasked;
+    reserving = o.reserving;
     opening = λ q. absurd (cc q);
     one_slot = λ apart. absurd (apart refl);
     joined = λ q. record {

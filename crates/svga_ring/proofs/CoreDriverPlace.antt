@@ -12,13 +12,14 @@ use Rattle.svga_cmd.specs.declared.command.Command.{Command}
 use Rattle.svga_cmd.specs.declared.command.Command.TheVariants.{Fence}
 use Rattle.svga_cmd.specs.declared.page.PageKey.{PageKey}
 use Rattle.svga_cmd.specs.declared.session.Session.{Session}
-use Rattle.svga_model.specs.Acts.{Act, Do, Put}
+use Rattle.svga_model.specs.Acts.{Act, Do, Put, Chain}
 use Rattle.svga_model.specs.States.{State}
-use Rattle.svga_ring.proofs.CoreAppend.{commands_put}
+use Rattle.svga_ring.proofs.CoreAppend.{commands_chain, commands_put}
 use Rattle.svga_ring.proofs.CoreFences.{fence_in_hand, fences_to}
 use Rattle.svga_ring.proofs.CorePlaces.{out_other}
 use Rattle.svga_ring.proofs.CoreSplit.{commands-append}
-use Rattle.svga_ring.specs.Committed.{before_fence, commands, fences, fences_passed}
+use Rattle.svga_ring.specs.Committed.{before_fence, commands, fences_passed}
+use Rattle.svga_model.specs.Fences.{fences}
 use Rattle.svga_ring.specs.Core.{Core}
 use Rattle.svga_ring.specs.Requests.{Request, is_chain_out}
 use Rattle.svga_ring.specs.Sound.{IsSoundOfWords}
@@ -83,7 +84,7 @@ by_fence-rises cs (suc j) (suc k) le =
 larger_low : (a b n : ℕ) → a ≤ n → b ≤ n → larger a b ≤ n
 larger_low a b n of_a of_b = elim (nat_lt a b) as (λ t. (if t then b else a) ≤ n) [ true ↦ of_b | false ↦ of_a ]
 
-larger_most : (a b : ℕ) → (a ≤ larger a b) × (b ≤ larger a b)
+pub larger_most : (a b : ℕ) → (a ≤ larger a b) × (b ≤ larger a b)
 larger_most a b = grind (arith, nat_tests)
 
 -- The driver's place is no less than what is known by STOP,
@@ -91,7 +92,7 @@ pub place_least : (acts : List Act) (passed seen : ℕ) → passed ≤ driver_pl
 place_least acts passed seen = (larger_most passed (by_fence (commands acts) seen)).0
 
 -- and never falls as more is known.
-place_rises : (acts : List Act) (passed seen more_passed more_seen : ℕ) → passed ≤ more_passed → seen ≤ more_seen
+pub place_rises : (acts : List Act) (passed seen more_passed more_seen : ℕ) → passed ≤ more_passed → seen ≤ more_seen
     → driver_place acts passed seen ≤ driver_place acts more_passed more_seen
 place_rises acts passed seen more_passed more_seen of_passed of_seen =
     let cs = commands acts in
@@ -148,6 +149,10 @@ by_fence-append (suc j) cs c low =
 pub place_put : (acts : List Act) (key : PageKey) (bytes : List ℕ) (passed seen : ℕ)
     → driver_place (acts ++ Put key bytes ∷ []) passed seen ≡ driver_place acts passed seen
 place_put acts key bytes passed seen = ap (λ cs. larger passed (by_fence cs seen)) (commands_put acts key bytes)
+
+pub place_chain : (acts : List Act) (id first passed seen : ℕ)
+    → driver_place (acts ++ Chain id first ∷ []) passed seen ≡ driver_place acts passed seen
+place_chain acts id first passed seen = ap (λ cs. larger passed (by_fence cs seen)) (commands_chain acts id first)
 
 pub place_command : (acts : List Act) (c : Command) (passed seen : ℕ) → seen ≤ length (fences (commands acts))
     → driver_place (acts ++ Do c ∷ []) passed seen ≡ driver_place acts passed seen

@@ -1,15 +1,18 @@
 -- Each step keeps what is sound, and so does each list of steps.
 use Rattle.std.proofs.Common.{List, [], ◌∷◌, rules}
 use Rattle.svga_cmd.specs.declared.session.Session.{Session}
+use Rattle.svga_ring.proofs.CoreAsks.{keeps_store_request}
 use Rattle.svga_ring.proofs.CoreClosing.{keeps_join, keeps_split, keeps_store_config, keeps_take_joined}
 use Rattle.svga_ring.proofs.CoreGives.{keeps_give, keeps_slot_home, keeps_slot_out, keeps_take}
 use Rattle.svga_ring.proofs.CoreHolds.{keeps_give_back, keeps_held_slot_home, keeps_held_slot_out, keeps_hold}
 use Rattle.svga_ring.proofs.CoreKeeps.{keeps_load_cell, keeps_load_fence, keeps_load_next, keeps_load_stop, keeps_store_cell, keeps_store_fence}
 use Rattle.svga_ring.proofs.CoreOpened.{opened}
+use Rattle.svga_ring.proofs.CoreReplies.{keeps_store_reply}
+use Rattle.svga_ring.proofs.CoreRequests.{keeps_load_reply, keeps_load_request, keeps_store_reserved}
 use Rattle.svga_ring.proofs.CoreSends.{keeps_commit, keeps_send_more}
 use Rattle.svga_ring.proofs.CoreStop.{keeps_stop}
 use Rattle.svga_ring.specs.Conditions.{Can}
-use Rattle.svga_ring.specs.Core.{Commit, Give, GiveBack, HeldSlotHome, HeldSlotOut, Hold, Join, LoadCell, LoadConfig, LoadFence, LoadNext, LoadStop, SendMore, SlotHome, SlotOut, Split, StoreCell, StoreConfig, StoreFence, StoreStop, Take, TakeJoined}
+use Rattle.svga_ring.specs.Core.{Commit, Give, GiveBack, HeldSlotHome, HeldSlotOut, Hold, Join, LoadCell, LoadConfig, LoadFence, LoadNext, LoadReply, LoadRequest, LoadStop, SendMore, SlotHome, SlotOut, Split, StoreCell, StoreConfig, StoreFence, StoreReply, StoreRequest, StoreReserved, StoreStop, Take, TakeJoined}
 use Rattle.svga_ring.specs.Core.{Core, Event, after, opening_core}
 use Rattle.svga_ring.specs.Lists.{CanAll, after_all}
 use Rattle.svga_ring.specs.Sound.{IsSound}
@@ -36,6 +39,11 @@ keeps_event k (Hold key act) c o can = keeps_hold k c key act o can
 keeps_event k (GiveBack key bytes) c o can = keeps_give_back k c key bytes o can
 keeps_event k (HeldSlotOut key) c o can = keeps_held_slot_out k c key o can
 keeps_event k (HeldSlotHome key) c o can = keeps_held_slot_home k c key o can
+keeps_event k (StoreReserved value) c o can = keeps_store_reserved k c value o can
+keeps_event k (StoreRequest id first) c o can = keeps_store_request k c id first o can
+keeps_event k LoadReply c o can = keeps_load_reply k c o can
+keeps_event k LoadRequest c o can = keeps_load_request k c o can
+keeps_event k StoreReply c o can = keeps_store_reply k c o can
 keeps_event k StoreConfig c o can = keeps_store_config k c o can
 keeps_event k LoadConfig c o can = keeps_load_config k c o can
 keeps_event k Join c o can = keeps_join k c o can

@@ -12,11 +12,11 @@ use Rattle.svga_cmd.specs.Spelling.{Spells}
 use Rattle.svga_cmd.specs.declared.command.Command.{Command}
 use Rattle.svga_cmd.specs.declared.command.Command.TheVariants.{Fence}
 use Rattle.svga_cmd.specs.declared.session.Session.{Session}
-use Rattle.svga_model.specs.Fences.{number_of_fence, register_after}
+use Rattle.svga_model.specs.Fences.{fence_value, fences, number_of_fence, register_after}
 use Rattle.svga_ring.proofs.CoreCells.{fixed_set, open_fence, place_beside}
 use Rattle.svga_ring.proofs.CoreLoads.{in_hand}
 use Rattle.svga_ring.proofs.CoreSplit.{IsNext}
-use Rattle.svga_ring.specs.Committed.{commands, fence_value, fences, fences_passed}
+use Rattle.svga_ring.specs.Committed.{commands, fences_passed}
 use Rattle.svga_ring.specs.Conditions.{Can, IsNextFence}
 use Rattle.svga_ring.specs.Core.{Core, StoreFence, after}
 use Rattle.svga_ring.specs.Seen.{IsSeen}

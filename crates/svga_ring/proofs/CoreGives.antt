@@ -226,7 +226,7 @@ keeps_give k c key bytes o can =
       requests = requests_more _ (λ out last. last_chain_put d.request d.acts key bytes last)
           (requests_beside i 1 (omega arith) (omega arith) (omega arith) o.requests);
       stops = stops_beside i 1 (omega arith) o.stops;
-      unasked = o.unasked;
+      reserving = o.reserving;
       opening = λ q. absurd (cc (can.0, q));
       one_slot = λ apart a b of_a of_b. o.one_slot apart a b (in_fewer d.out key a of_a) (in_fewer d.out key b of_b);
       joined = λ q. absurd (cc (can.0, q));

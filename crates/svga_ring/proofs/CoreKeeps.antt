@@ -38,7 +38,7 @@ keeps_load_stop k c o can = record {
   runs = o.runs;
   requests = o.requests;
   stops = o.stops;
-  unasked = o.unasked;
+  reserving = o.reserving;
   opening = λ q. absurd (cc (can, q));
   one_slot = o.one_slot;
   joined = λ q. absurd (cc (can, q));
@@ -55,7 +55,7 @@ keeps_load_fence k c o can = record {
   runs = o.runs;
   requests = o.requests;
   stops = o.stops;
-  unasked = o.unasked;
+  reserving = o.reserving;
   opening = λ q. absurd (cc (can, q));
   one_slot = o.one_slot;
   joined = λ q. absurd (cc (can, q));
@@ -78,14 +78,14 @@ keeps_load_next k c o can = record {
     loaded_stop = o.stops.loaded_stop;
     next_since_stop = λ saw. (saw, refl);
   };
-  unasked = o.unasked;
+  reserving = o.reserving;
   opening = λ q. absurd (cc (can, q));
   one_slot = o.one_slot;
   joined = λ q. absurd (cc (can, q));
 }
 
 -- While a chain is out all commands are done, so all words that are sent are taken.
-none_unread : {way : Way} {sent taken read : List ℕ} {done next : ℕ} (acts : List Act)
+pub none_unread : {way : Way} {sent taken read : List ℕ} {done next : ℕ} (acts : List Act)
     → AreInOrder way (commands acts) sent taken read done next → length (commands acts) ≤ done
     → length sent ≤ length taken
 none_unread {sent = sent} {done = done} acts o all =
@@ -124,7 +124,7 @@ keeps_load_cell k c o can =
       runs = runs_read (e.read ++ slice_index c.words (word_cell e.layout (read_count e)) ∷ []) can.2 left o.runs;
       requests = o.requests;
       stops = o.stops;
-      unasked = o.unasked;
+      reserving = o.reserving;
       opening = λ q. absurd (let apart = can.0 in cc (apart, q));
       one_slot = o.one_slot;
       joined = λ q. absurd (let apart = can.0 in cc (apart, q));
@@ -159,7 +159,7 @@ keeps_store_cell k c word o can =
       requests = requests_beside i word (omega (arith, cell.in_fifo)) (omega (arith, cell.in_fifo))
           (omega (arith, cell.least)) o.requests;
       stops = stops_more (d.pending ++ word ∷ []) can.1.runs stops;
-      unasked = o.unasked;
+      reserving = record { while_pending = λ way some. can.1.reserved way };
       opening = λ q. absurd (let apart = can.0 in cc (apart, q));
       one_slot = o.one_slot;
       joined = λ q. absurd (let apart = can.0 in cc (apart, q));
@@ -174,7 +174,7 @@ keeps_store_fence k c value o can = record {
   runs = o.runs;
   requests = requests_beside fence_word value (omega arith) (omega arith) (omega arith) o.requests;
   stops = stops_beside fence_word value (omega arith) o.stops;
-  unasked = o.unasked;
+  reserving = o.reserving;
   opening = λ q. absurd (let apart = can.0 in cc (apart, q));
   one_slot = o.one_slot;
   joined = λ q. absurd (let apart = can.0 in cc (apart, q));

@@ -79,6 +79,7 @@ opened_requests k = record {
   out_is_last_chain = λ out. absurd (cc out);
   loaded_is = inl refl;
   reserved_is = opening_zero k 14 (omega arith) (omega arith);
+  fits = record { number_fits = omega arith; id_fits = omega arith; descriptor_fits = omega arith };
 }
 
 opened_stops : (k : Session) → IsStopping (opening_words k) [] [] false false false 0 0 0
@@ -100,7 +101,7 @@ opened k =
       runs = runs_unnoted refl (λ front rest id first is. absurd (none_first front rest (Chain id first) is));
       requests = opened_requests k;
       stops = opened_stops k;
-      unasked = record { request_is = refl; wanted_is = refl; answered_is = refl; last_reply_is = refl; reserved_is = refl };
+      reserving = record { while_pending = λ way some. absurd (some refl) };
       opening = λ e. refl;
       one_slot = λ apart a b of_a of_b. absurd (let none = contains-empty key_cmp a in cc (none, of_a));
       joined = λ e. absurd (cc e);

@@ -52,6 +52,7 @@ opens k =
         known_stop = omega arith;
         room = omega (arith, some.0);
         cells = λ i low high. absurd (omega arith);
+        dwords = λ i less. absurd (omega arith);
         short = omega arith;
       };
       fixed = record {

@@ -160,3 +160,22 @@ known_commit cs c done stop passed low o = record {
 pub known_take : (cs : List Command) (done stop passed : ℕ) → IsKnownWhole cs done stop passed
     → IsKnownWhole cs (done + 1) stop passed
 known_take cs done stop passed o = record { passed_low = omega (arith, o.passed_low); stop_is = o.stop_is }
+
+-- What isn't sent once pending words are: of a command that is committed, and of the last one.
+pub unsent_commit : (way : Way) (cs : List Command) (c : Command) (sent pending more taken read : List ℕ) (done next : ℕ)
+    → AreInOrder way cs sent taken read done next → drop (length sent) (spelling_all cs) ≡ []
+    → spelling c ≡ pending ++ more
+    → drop (length (sent ++ pending)) (spelling_all (cs ++ c ∷ [])) ≡ more
+unsent_commit way cs c sent pending more taken read done next o none are =
+    let no_rest : o.rest ≡ [] = sym (unsent_is cs sent o.rest o.acts_spelled) ∙ none in
+    let all : spelling_all cs ≡ sent = o.acts_spelled ∙ ap (λ l. sent ++ l) no_rest ∙ append-nil sent in
+    unsent_is (cs ++ c ∷ []) (sent ++ pending) more
+    (spelling_all-push cs c ∙ (λ i. all i ++ are i) ∙ sym (append_assoc sent pending more))
+
+pub unsent_more : (way : Way) (cs : List Command) (sent pending more taken read : List ℕ) (done next : ℕ)
+    → AreInOrder way cs sent taken read done next → drop (length sent) (spelling_all cs) ≡ pending ++ more
+    → drop (length (sent ++ pending)) (spelling_all cs) ≡ more
+unsent_more way cs sent pending more taken read done next o are =
+    let rest : o.rest ≡ pending ++ more = sym (unsent_is cs sent o.rest o.acts_spelled) ∙ are in
+    unsent_is cs (sent ++ pending) more
+    (o.acts_spelled ∙ ap (λ l. sent ++ l) rest ∙ sym (append_assoc sent pending more))

@@ -59,7 +59,7 @@ page_step {c = c} key value home o apart pages clear runs one_slot =
       runs = runs;
       requests = requests_beside i value (omega arith) (omega arith) (omega arith) o.requests;
       stops = stops_beside i value (omega arith) o.stops;
-      unasked = o.unasked;
+      reserving = o.reserving;
       opening = λ q. absurd (cc (apart, q));
       one_slot = λ not_joined. one_slot;
       joined = λ q. absurd (cc (apart, q));

@@ -22,7 +22,8 @@ use Rattle.svga_ring.proofs.CoreFences.{passed_in}
 use Rattle.svga_ring.proofs.CoreInHand.{is_answered, none_out}
 use Rattle.svga_ring.proofs.CoreSettled.{settled_command}
 use Rattle.svga_ring.proofs.CoreWords.{words_commit, words_send_more}
-use Rattle.svga_ring.specs.Committed.{behind, commands, fences}
+use Rattle.svga_ring.specs.Committed.{behind, commands}
+use Rattle.svga_model.specs.Fences.{fences}
 use Rattle.svga_ring.specs.Conditions.{ArePending, Can}
 use Rattle.svga_ring.specs.Core.{Commit, Core, SendMore, after, put_count}
 use Rattle.svga_ring.specs.Layouts.{word_address}
@@ -76,7 +77,7 @@ keeps_send_more k c o can =
       runs = o.runs;
       requests = requests_beside next_word x (omega arith) (omega arith) (omega arith) o.requests;
       stops = stops_sent (d.sent ++ d.pending) can.1.0 (stops_beside next_word x (omega arith) o.stops);
-      unasked = o.unasked;
+      reserving = record { while_pending = λ way some_left. absurd (some_left refl) };
       opening = λ q. absurd (let apart = can.0 in cc (apart, q));
       one_slot = o.one_slot;
       joined = λ q. absurd (let apart = can.0 in cc (apart, q));
@@ -164,7 +165,7 @@ keeps_commit k c command o can =
       requests = requests_more acts (λ out last. absurd (none out))
           (requests_beside next_word x (omega arith) (omega arith) (omega arith) o.requests);
       stops = stops_sent (d.sent ++ d.pending) some (stops_beside next_word x (omega arith) o.stops);
-      unasked = o.unasked;
+      reserving = record { while_pending = λ way some_left. absurd (some_left refl) };
       opening = λ q. absurd (let apart = can.0 in cc (apart, q));
       one_slot = o.one_slot;
       joined = λ q. absurd (let apart = can.0 in cc (apart, q));

@@ -1,27 +1,24 @@
 -- The store of STOP: the command in hand is served, so each page at home is as it leaves it, and none is noted more.
-use Rattle.std.proofs.Common.{◌≡◌, ◌≢◌, ℕ, ◌+◌, List, [], ◌∷◌, ◌++◌, All, Bool, true, false, Option, Some, None, is_some, option_and_then, option_map, unwrap_or, refl, sym, ap, subst, ◌∙◌, arith}
+use Rattle.std.proofs.Common.{◌≡◌, ℕ, ◌+◌, List, ◌∷◌, ◌++◌, All, Bool, true, false, sym, ap, subst, ◌∙◌, arith}
 use Rattle.std.specs.FinMap as map
-use Rattle.std.specs.FinMap.{get-empty}
 use Rattle.std.specs.FinSet.{FinSet}
-use mathlib.Core.Option as maybe
-use Rattle.svga_cmd.specs.Pages.{HasPage, IsKey, key_cmp, page_at}
+use Rattle.svga_cmd.specs.Pages.{HasPage, IsKey, key_cmp}
 use Rattle.svga_cmd.specs.Spelling.{Spells}
 use Rattle.svga_cmd.specs.declared.command.Command.{Command}
-use Rattle.svga_cmd.specs.declared.limits.Limits.{Limits}
 use Rattle.svga_cmd.specs.declared.page.PageKey.{PageKey}
 use Rattle.svga_cmd.specs.declared.session.Session.{Session}
-use Rattle.svga_model.proofs.TouchLaws.{other_pages, same_fault}
+use Rattle.svga_model.proofs.TouchLaws.{same_fault}
 use Rattle.svga_model.specs.Acts.{Act, Do, IsAct}
 use Rattle.svga_model.specs.Faults.{IsAdmissible}
 use Rattle.svga_model.specs.Memories.{page_bytes}
-use Rattle.svga_model.specs.States.{Kept, State}
+use Rattle.svga_model.specs.States.{State}
 use Rattle.svga_model.specs.Steps.{step}
-use Rattle.svga_model.specs.Touches.{AgreeOn, Touches, has_page, touched_places, touches}
+use Rattle.svga_model.specs.Touches.{Touches}
 use Rattle.svga_ring.proofs.CoreBeside.{places_beside, requests_beside, stops_beside}
 use Rattle.svga_ring.proofs.CoreInHand.{IsSettledNext, is_next, no_chain, opening_of, settled_of, settles, touches_next}
-use Rattle.svga_ring.proofs.CoreKnown.{IsCut, cut_step}
-use Rattle.svga_ring.proofs.CoreNoted.{first_held_page, held_unnoted, home_unnoted, runs_unnoted}
+use Rattle.svga_ring.proofs.CoreNoted.{runs_unnoted}
 use Rattle.svga_ring.proofs.CoreRuns.{page_there}
+use Rattle.svga_ring.proofs.CoreServed.{IsDoneByKnown, IsKnownBefore, given_noted, home_bytes, is_cut, known_before, places_served}
 use Rattle.svga_ring.proofs.CoreSettled.{act_at}
 use Rattle.svga_ring.proofs.CoreTouched.{touched_key}
 use Rattle.svga_ring.proofs.CoreWords.{words_store_stop}
@@ -29,105 +26,11 @@ use Rattle.svga_ring.specs.Committed.{before, behind, settled}
 use Rattle.svga_ring.specs.Conditions.{Can}
 use Rattle.svga_ring.specs.Core.{Core, StoreStop, after, read_count}
 use Rattle.svga_ring.specs.Layouts.{word_address}
-use Rattle.svga_ring.specs.Noting.{NotedPages, bytes_at_home, first_held, given_back, holds, known_state}
-use Rattle.svga_ring.specs.Places.{Home, place_home}
+use Rattle.svga_ring.specs.Noting.{bytes_at_home, known_state}
 use Rattle.svga_ring.specs.Requests.{Request, is_chain_out}
 use Rattle.svga_ring.specs.SharedTable.{stop_word}
 use Rattle.svga_ring.specs.Sound.{IsSound}
-use Rattle.svga_ring.specs.SoundPages.{AreAtPlaces, AreClear, reached}
-use Rattle.svga_ring.specs.Views.{Noted}
-
--- the state as far as it is known
-abbrev known : Kept → NotedPages → State
-known kept noted = record { kept = kept; memory = first_held noted }
-
--- a command touches the same pages in states that keep the same
-same_touched : (k m : Kept) (c : Command) (key : PageKey) → k ≡ m
-    → has_page (touched_places k c) key ≡ true → has_page (touched_places m c) key ≡ true
-same_touched k m c key same touched = ap (λ kept. has_page (touched_places kept c) key) (sym same) ∙ touched
-
--- the bytes of a page that is there
-page_is : (o : Option (List ℕ)) → is_some o ≡ true → o ≡ Some (unwrap_or o [])
-page_is None e = absurd (cc e)
-page_is (Some bytes) e = refl
-
--- of one that was given back
-page_given : (o : Option (List ℕ)) (bytes : List ℕ) → o ≢ None → unwrap_or o bytes ≡ unwrap_or o []
-page_given None bytes some = absurd (some refl)
-page_given (Some back) bytes some = refl
-
--- What is kept and was noted is as in the state before the command, and all pages that it touches are noted.
-record IsKnownBefore (kept : Kept) (noted : NotedPages) (here : State) (c : Command) : Type 0 where
-  same : kept ≡ here.kept
-  there : (key : PageKey) → Touches here (Do c) key → HasPage here.memory key
-  firsts : (key : PageKey) (bytes : List ℕ) (back : Option (List ℕ))
-      → map.get noted key ≡ Some (record { first = bytes; back = back }) → bytes ≡ page_bytes here.memory key
-  all_noted : (key : PageKey) → Touches (known kept noted) (Do c) key → map.contains_key noted key ≡ true
-
-known_before : (kept : Kept) (noted : NotedPages) (here : State) (c : Command) → IsKnownBefore kept noted here c
-    → AgreeOn (known kept noted) here (Do c)
-known_before kept noted here c o key touched = at (map.get noted key) refl where
-  at : (n : Option Noted) → map.get noted key ≡ n → page_at (first_held noted) key ≡ page_at here.memory key
-  at None none = absurd (let is = o.all_noted key touched in let isnt = ap is_some none in cc (is, isnt))
-  at (Some n) some =
-      let there = o.there key (same_touched kept here.kept c key o.same touched) in
-      first_held_page noted key ∙ ap (λ m. option_map (λ x. x.first) m) some
-      ∙ ap Some (o.firsts key n.first n.back some) ∙ sym (page_is (page_at here.memory key) there)
-
--- a page that was given back is noted
-given_noted : (at : Option Noted) → option_and_then (λ n. n.back) at ≢ None → is_some at ≡ true
-given_noted None given = absurd (given refl)
-given_noted (Some n) given = refl
-
--- The command in hand is served: what was noted is as in the state before it, and what was given back is as the command
--- leaves it.
-record IsDoneByKnown (kept : Kept) (noted : NotedPages) (here : State) (c : Command) : Type 0 where
-  before : IsKnownBefore kept noted here c
-  given : (key : PageKey) → Touches (known kept noted) (Do c) key
-      → given_back noted key ≡ page_at (step (known kept noted) (Do c)).memory key
-  all_given : (key : PageKey) → Touches (known kept noted) (Do c) key → given_back noted key ≢ None
-  noted_touched : (key : PageKey) → map.contains_key noted key ≡ true → Touches here (Do c) key
-
-module _ (kept : Kept) (noted : NotedPages) (here : State) (c : Command) (o : IsDoneByKnown kept noted here c) where
-  is_cut : IsCut (known kept noted) here (Do c)
-  is_cut = cut_step (known kept noted) here (Do c) o.before.same (known_before kept noted here c o.before)
-
-  -- so a page at home holds what the command leaves
-  home_bytes : (key : PageKey)
-      → bytes_at_home noted key (page_bytes here.memory key) ≡ page_bytes (step here (Do c)).memory key
-  home_bytes key = at (touches here (Do c) key) refl (map.get noted key) refl where
-    at : (t : Bool) → touches here (Do c) key ≡ t → (n : Option Noted) → map.get noted key ≡ n
-        → bytes_at_home noted key (page_bytes here.memory key) ≡ page_bytes (step here (Do c)).memory key
-    at true touched n is =
-        let as_known = is_cut.touched key touched in
-        page_given (given_back noted key) (page_bytes here.memory key) (o.all_given key as_known)
-        ∙ ap (λ p. unwrap_or p []) (o.given key as_known ∙ is_cut.pages key touched)
-    at false off None none =
-        home_unnoted noted key (page_bytes here.memory key) none
-        ∙ ap (λ p. unwrap_or p []) (sym (other_pages here (Do c) key (λ put. put) (λ touched. cc (touched, off))))
-    at false off (Some n) some = absurd (let touched = o.noted_touched key (ap is_some some) in cc (touched, off))
-
--- no page moves: what was noted was given back, and is noted no more
-places_stop : {l : Limits} {words : List ℕ} {homes : List Home} {s t : State} {lent driver_out : FinSet key_cmp}
-    {noted : NotedPages} {device_out : Option PageKey} → ((key : PageKey) → holds noted key ≡ false)
-    → ((key : PageKey) → bytes_at_home noted key (page_bytes s.memory key) ≡ page_bytes t.memory key)
-    → AreAtPlaces l words homes s lent driver_out noted device_out
-    → AreAtPlaces l words homes t lent driver_out map.empty device_out
-places_stop {t = t} none same o = record {
-  slots = o.slots;
-  place = o.place;
-  each = λ key is.
-      let at = o.each key is in
-      let bytes = same key ∙ sym (home_unnoted map.empty key (page_bytes t.memory key) (get-empty key_cmp key)) in
-      record {
-        word_is = at.word_is;
-        home_is = at.home_is ∙ ap (λ b. maybe.some (place_home b (o.place key))) bytes;
-        lent_is = at.lent_is;
-        held_is = held_unnoted map.empty key (get-empty key_cmp key) ∙ sym (none key) ∙ at.held_is;
-        driver_out_is = at.driver_out_is;
-        device_out_is = at.device_out_is;
-      };
-}
+use Rattle.svga_ring.specs.SoundPages.{AreClear, reached}
 
 -- acts are clear as before, where one fewer has still to be done
 clear_stop : (s : State) (acts : List Act) (n passed seen : ℕ) (lent : FinSet key_cmp) (request : Request)
@@ -163,7 +66,7 @@ module _ (k : Session) (c : Core) (command : Command) (o : IsSound k c) (spells 
 
   known_here : ((key : PageKey) → Touches (known_state c.device) (Do command) key
       → map.contains_key c.device.noted key ≡ true)
-      → IsKnownBefore c.device.kept c.device.noted (here k c) command
+      → IsKnownBefore c.device.kept c.device.noted (here k c) (Do command)
   known_here all_noted =
       let acts : List Act = c.driver.acts in
       let e = c.device in
@@ -187,7 +90,7 @@ module _ (k : Session) (c : Core) (command : Command) (o : IsSound k c) (spells 
       let e = c.device in
       let known_so = known_here all_noted in
       same_fault (known_state e) (here k c) (Do command) known_so.same
-      (known_before e.kept e.noted (here k c) command known_so) ∙ read_admits
+      (known_before e.kept e.noted (here k c) (Do command) known_so) ∙ read_admits
 
 module _ (k : Session) (c : Core) (command : Command) (o : IsSound k c) (can : Can (StoreStop command) c) where
   none : is_chain_out c.driver.request c.device.answered ≡ false
@@ -196,12 +99,13 @@ module _ (k : Session) (c : Core) (command : Command) (o : IsSound k c) (can : C
   next : IsSettledNext (opening_of k) c.driver.acts c.device.done command
   next = settles k c command o can.1.read_whole
 
-  done_by_known : IsDoneByKnown c.device.kept c.device.noted (here k c) command
+  done_by_known : IsDoneByKnown c.device.kept c.device.noted (here k c) (Do command)
   done_by_known =
       let e = c.device in
       record {
         before = known_here k c command o can.1.read_whole
             (λ key touched. given_noted (map.get e.noted key) (can.1.all_given key touched));
+        no_put = λ put. put;
         given = can.1.given;
         all_given = can.1.all_given;
         noted_touched = λ key is. next.same_touches key
@@ -214,7 +118,7 @@ module _ (k : Session) (c : Core) (command : Command) (o : IsSound k c) (can : C
 
   -- and the device keeps what that leaves
   pub kept_step : (after (StoreStop command) c).device.kept ≡ (then k c).kept
-  kept_step = (is_cut c.device.kept c.device.noted (here k c) command done_by_known).kept
+  kept_step = (is_cut c.device.kept c.device.noted (here k c) (Do command) done_by_known).kept
       ∙ ap (λ (t : State). t.kept) (sym settled_step)
 
   pub keeps_stop : IsSound k (after (StoreStop command) c)
@@ -230,11 +134,11 @@ module _ (k : Session) (c : Core) (command : Command) (o : IsSound k c) (can : C
       let bytes : (key : PageKey) → bytes_at_home e.noted key (page_bytes s.memory key) ≡ page_bytes t.memory key =
       λ key.
       ap (λ r. bytes_at_home e.noted key (page_bytes r.memory key)) is_here
-      ∙ home_bytes e.kept e.noted (here k c) command done_by_known key
+      ∙ home_bytes e.kept e.noted (here k c) (Do command) done_by_known key
       ∙ ap (λ r. page_bytes r.memory key) (sym settled_step ∙ is_then) in
       record {
         of_words = words_store_stop k c command o.of_words can;
-        pages = places_stop can.1.none_held bytes (places_beside stop_word x (omega arith) o.pages);
+        pages = places_served can.1.none_held bytes (places_beside stop_word x (omega arith) o.pages);
         clear = clear_stop (opening_of k) d.acts e.done d.passed d.seen d.lent d.request e.answered o.clear;
         runs = runs_unnoted (kept_step ∙ ap (λ (r : State). r.kept) is_then) (λ front rest id first is. (
             let less = o.runs.chains_done front rest id first is in
@@ -242,7 +146,7 @@ module _ (k : Session) (c : Core) (command : Command) (o : IsSound k c) (can : C
             ));
         requests = requests_beside stop_word x (omega arith) (omega arith) (omega arith) o.requests;
         stops = stops_beside stop_word x (omega arith) o.stops;
-        unasked = o.unasked;
+        reserving = o.reserving;
         opening = λ q. absurd (let apart = can.0 in cc (apart, q));
         one_slot = o.one_slot;
         joined = λ q. absurd (let apart = can.0 in cc (apart, q));

@@ -38,7 +38,7 @@ words_store_cell k c word o can =
       session = o.session;
       order = o.order;
       place = place_cell lay _ _ _ _ _ i word o.session.layout wide here (omega (arith, can.1.room, dwords)) can.1.short
-          (omega (arith, o.order.read_known, o.order.known_sent)) o.place;
+          (omega (arith, o.order.read_known, o.order.known_sent)) can.2 o.place;
       fixed = fixed_set _ _ lay _ i word
           (subst (λ n. IsOpen lay n) (sym here) (open_cell lay (put_count d) o.session.layout)) o.fixed;
       known = o.known;

@@ -1,11 +1,11 @@
 -- Steps of wrong ends on pages leave no sound state.
-use Rattle.std.proofs.Common.{◌≡◌, ℕ, List, [], Bool, true, false, refl, sym, ◌∙◌, arith}
+use Rattle.std.proofs.Common.{◌≡◌, ℕ, List, [], Bool, true, refl, sym, ◌∙◌, arith}
 use Rattle.svga_cmd.specs.declared.page.PageKey.{PageKey}
 use Rattle.svga_model.proofs.GrammarSpelled.{spelled_some}
 use Rattle.svga_model.specs.Acts.{Act}
 use Rattle.svga_model.specs.States.{State}
 use Rattle.svga_ring.specs.Places.{Place, held, is_held, out_with_device, place_word}
-use Rattle.svga_ring.specs.Requests.{Request, is_chain_out, no_request}
+use Rattle.svga_ring.specs.Requests.{IsChainOut, Request}
 use Rattle.svga_ring.specs.SoundPages.{TouchesInHand, by_chain, by_command}
 
 -- a page whose word is that of one that is held is held
@@ -20,10 +20,8 @@ pub still_held : (p q : Place) (word was : ℕ) (holds left : Bool) → holds �
 still_held p q word was holds left is held_is was_is same word_is left_is =
     left_is ∙ word_held p q (sym held_is ∙ is) (sym was_is ∙ sym same ∙ word_is)
 
--- where nothing was read and nothing was asked for, no act in hand touches a page
+-- where nothing was read and no chain is out, no act in hand touches a page
 pub none_in_hand : {s : State} {acts : List Act} {done : ℕ} {request wanted : Request} {answered : ℕ} {key : PageKey}
-    → request ≡ no_request → answered ≡ 0 → TouchesInHand s acts done [] request wanted answered key → ⊥
-none_in_hand request_is answered_is (by_command c spells touched) = omega (arith, spelled_some c [] spells)
-none_in_hand {request = request} {answered = answered} request_is answered_is (by_chain empty out loaded touched) =
-    let none : is_chain_out request answered ≡ false = λ i. is_chain_out (request_is i) (answered_is i) in
-    cc (none, out)
+    → (IsChainOut request answered → ⊥) → TouchesInHand s acts done [] request wanted answered key → ⊥
+none_in_hand none (by_command c spells touched) = omega (arith, spelled_some c [] spells)
+none_in_hand none (by_chain empty out loaded touched) = none out

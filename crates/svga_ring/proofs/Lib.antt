@@ -1,4 +1,5 @@
 pub mod CoreAppend
+pub mod CoreAsks
 pub mod CoreBeside
 pub mod CoreCells
 pub mod CoreClosing
@@ -7,6 +8,7 @@ pub mod CoreEvents
 pub mod CoreFences
 pub mod CoreFloat
 pub mod CoreGives
+pub mod CoreHappens
 pub mod CoreHolds
 pub mod CoreInHand
 pub mod CoreKeeps
@@ -20,8 +22,12 @@ pub mod CoreOrder
 pub mod CorePageSteps
 pub mod CorePlaces
 pub mod CorePuts
+pub mod CoreReads
+pub mod CoreReplies
+pub mod CoreRequests
 pub mod CoreRuns
 pub mod CoreSends
+pub mod CoreServed
 pub mod CoreSettled
 pub mod CoreSplit
 pub mod CoreStop
@@ -29,6 +35,8 @@ pub mod CoreTable
 pub mod CoreTaken
 pub mod CoreTouched
 pub mod CoreTurns
+pub mod CoreWalks
 pub mod CoreWords
 pub mod CoreWrong
 pub mod CoreWrongPages
+pub mod CoreWrongRequests

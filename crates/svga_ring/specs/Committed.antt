@@ -1,8 +1,9 @@
 -- What the acts of a session say of its commands.
-use Rattle.std.specs.Prelude.{ℕ, zero, suc, ◌+◌, List, [], ◌∷◌, take, length, filter_map, Bool, false, true, not, ◌&&◌, if◌then◌else◌, Option, Some, None}
+use Rattle.std.specs.Prelude.{ℕ, zero, suc, ◌+◌, List, [], ◌∷◌, take, length, Bool, false, true, not, ◌&&◌, if◌then◌else◌}
 use Rattle.svga_cmd.specs.declared.command.Command.{Command}
 use Rattle.svga_cmd.specs.declared.command.Command.TheVariants.{Fence}
 use Rattle.svga_model.specs.Acts.{Act, Do, Put, Chain}
+use Rattle.svga_model.specs.Fences.{fences}
 
 -- the commands among the acts, in order
 abbrev pub commands : List Act → List Command
@@ -48,15 +49,6 @@ settled zero out (Do c ∷ acts) = puts_of acts
 settled (suc n) out (Do c ∷ acts) = Do c ∷ settled n out acts
 settled n out (Put key bytes ∷ acts) = Put key bytes ∷ settled n out acts
 settled n out (Chain id first ∷ acts) = if out && not (has_chain acts) then puts_of acts else Chain id first ∷ settled n out acts
-
--- the number that a FENCE sends
-abbrev pub fence_value : Command → Option ℕ
-fence_value (Fence value) = Some value
-fence_value c = None
-
--- the numbers of the fences among commands, in order
-abbrev pub fences : List Command → List ℕ
-fences cs = filter_map fence_value cs
 
 -- how many fences have passed where so many commands are done: theirs, and the one in hand where its number is stored
 abbrev pub fences_passed : List Command → ℕ → Bool → ℕ

@@ -11,14 +11,14 @@ use Rattle.svga_cmd.specs.declared.session.Way.{Way}
 use Rattle.svga_cmd.specs.declared.session.Way.TheVariants.{Reserve, Dword}
 use Rattle.svga_model.specs.Acts.{Act, Do, Chain}
 use Rattle.svga_model.specs.Faults.{IsAdmissible}
-use Rattle.svga_model.specs.Fences.{number_of_fence}
+use Rattle.svga_model.specs.Fences.{fences, number_of_fence}
 use Rattle.svga_model.specs.Runs.{run}
 use Rattle.svga_model.specs.Sentences.{spelling_all}
 use Rattle.svga_model.specs.States.{State, opening_state}
 use Rattle.svga_model.specs.Steps.{step}
 use Rattle.svga_model.specs.Touches.{Touches}
-use Rattle.svga_ring.specs.Committed.{commands, fences}
-use Rattle.svga_ring.specs.Core.{Commit, Core, Event, Give, GiveBack, HeldSlotHome, HeldSlotOut, Hold, Join, LoadCell, LoadConfig, LoadFence, LoadNext, LoadStop, SendMore, SlotHome, SlotOut, Split, StoreCell, StoreConfig, StoreFence, StoreStop, Take, TakeJoined, put_count, read_count}
+use Rattle.svga_ring.specs.Committed.{commands}
+use Rattle.svga_ring.specs.Core.{Commit, Core, Event, Give, GiveBack, HeldSlotHome, HeldSlotOut, Hold, Join, LoadCell, LoadConfig, LoadFence, LoadNext, LoadReply, LoadRequest, LoadStop, SendMore, SlotHome, SlotOut, Split, StoreCell, StoreConfig, StoreFence, StoreReply, StoreRequest, StoreReserved, StoreStop, Take, TakeJoined, chain_of, put_count, read_count}
 use Rattle.svga_ring.specs.Layouts.{ring_dwords, word_address}
 use Rattle.svga_ring.specs.Noting.{MayHold, given_back, holds, known_state}
 use Rattle.svga_ring.specs.Requests.{is_ring_request}
@@ -64,8 +64,17 @@ pub record MayCommit (d : DriverView) (c : Command) : Type 0 where
 -- a word more fits
 pub record MayStoreCell (d : DriverView) : Type 0 where
   pub runs : d.stopped ≡ false
+  pub reserved : d.terms.way ≡ Reserve → d.reserved ≢ 0
   pub room : put_count d + 1 < d.stop + ring_dwords d.layout
   pub short : put_count d < 2 ^ 62
+
+-- A chain may be asked for: nothing else is under way, since the last STOP loaded is NEXT_CMD.
+pub record MayAsk (d : DriverView) (id first : ℕ) : Type 0 where
+  pub runs : d.stopped ≡ false
+  pub none_open : NoneOpen d
+  pub all_taken : d.stop_loads.last ≡ word_address d.layout (length d.sent)
+  pub admissible : IsAdmissible (run (first_state d) d.acts) (Chain id first)
+  pub pages_lent : (key : PageKey) → Touches (run (first_state d) d.acts) (Chain id first) key → set.contains d.lent key ≡ true
 
 -- no slot is out with the driver
 abbrev pub NoSlotOut : DriverView → Type 0
@@ -93,11 +102,19 @@ pub record IsServed (e : DeviceView) (c : Command) : Type 0 where
   pub all_given : (key : PageKey) → Touches (known_state e) (Do c) key → given_back e.noted key ≢ None
   pub fence : (value : ℕ) → c ≡ Fence value → e.stored ≡ true
 
+-- The chain that was loaded is served: no page is held any more, and each page that it touches is given back as it was.
+pub record IsChainServed (e : DeviceView) : Type 0 where
+  pub waits : e.wanted.number ≢ e.answered
+  pub no_ring : is_ring_request e.wanted ≡ false
+  pub none_held : (key : PageKey) → holds e.noted key ≡ false
+  pub given : (key : PageKey) → Touches (known_state e) (chain_of e.wanted) key → given_back e.noted key ≡ page_at (known_state e).memory key
+  pub all_given : (key : PageKey) → Touches (known_state e) (chain_of e.wanted) key → given_back e.noted key ≢ None
+
 -- the condition of each step
 abbrev pub Can : Event → Core → Type 0
 Can Split c = c.seats ≡ Opening
 Can LoadStop c = c.seats ≡ Apart
-Can (StoreCell word) c = (c.seats ≡ Apart) × MayStoreCell c.driver
+Can (StoreCell word) c = (c.seats ≡ Apart) × MayStoreCell c.driver × (word < 2 ^ 32)
 Can (Commit command) c = (c.seats ≡ Apart) × MayCommit c.driver command
 Can SendMore c = (c.seats ≡ Apart) × IsFrontOf c.driver.pending (unsent c.driver)
 Can LoadNext c = c.seats ≡ Apart
@@ -114,6 +131,11 @@ Can (Hold key act) c = (c.seats ≡ Apart) × IsKey c.device.terms.limits key ×
 Can (GiveBack key bytes) c = (c.seats ≡ Apart) × IsKey c.device.terms.limits key × (c.device.out ≡ Some key) × IsPage bytes
 Can (HeldSlotOut key) c = (c.seats ≡ Apart) × IsKey c.device.terms.limits key × (holds c.device.noted key ≡ true) × (c.device.out ≡ None)
 Can (HeldSlotHome key) c = (c.seats ≡ Apart) × IsKey c.device.terms.limits key × (c.device.out ≡ Some key)
+Can (StoreReserved value) c = (c.seats ≡ Apart) × (c.driver.pending ≡ [])
+Can (StoreRequest id first) c = (c.seats ≡ Apart) × MayAsk c.driver id first
+Can LoadReply c = c.seats ≡ Apart
+Can LoadRequest c = c.seats ≡ Apart
+Can StoreReply c = (c.seats ≡ Apart) × IsChainServed c.device
 Can StoreConfig c = (c.seats ≡ Apart) × NoneOpen c.driver × (c.driver.pending ≡ [])
 Can LoadConfig c = c.seats ≡ Apart
 Can Join c = (c.seats ≡ Apart) × (c.device.saw_stopped ≡ true) × (c.device.drained ≡ true)

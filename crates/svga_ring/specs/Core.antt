@@ -7,13 +7,14 @@ use mathlib.Core.Option as maybe
 use Rattle.svga_cmd.specs.declared.command.Command.{Command}
 use Rattle.svga_cmd.specs.declared.page.PageKey.{PageKey}
 use Rattle.svga_cmd.specs.declared.session.Session.{Session}
-use Rattle.svga_model.specs.Acts.{Act, Do, Put}
+use Rattle.svga_model.specs.Acts.{Act, Do, Put, Chain}
 use Rattle.svga_model.specs.Steps.{step}
 use Rattle.svga_ring.specs.Committed.{commands, fences_passed}
 use Rattle.svga_ring.specs.Layouts.{ring_start, word_address, word_cell}
 use Rattle.svga_ring.specs.Noting.{known_state}
 use Rattle.svga_ring.specs.Places.{Home}
-use Rattle.svga_ring.specs.SharedTable.{config_word, fence_word, next_word, page_count, page_word, slot_number, stop_word, table_length}
+use Rattle.svga_ring.specs.Requests.{Request, next_request, request_value}
+use Rattle.svga_ring.specs.SharedTable.{config_word, fence_word, next_word, page_count, page_word, reply_word, request_word, reserved_word, slot_number, stop_word, table_length}
 use Rattle.svga_ring.specs.SoundWords.{capabilities}
 use Rattle.svga_ring.specs.Views.{Apart, DeviceView, DriverView, Joined, Noted, Opening, Seats, loaded, opening_device, opening_driver}
 
@@ -50,6 +51,13 @@ pub data Event : Type 0 where
   GiveBack : PageKey → List ℕ → Event
   HeldSlotOut : PageKey → Event
   HeldSlotHome : PageKey → Event
+  -- requests: the driver reserves so many bytes, asks for a chain by its region and first page, and loads the reply; the
+  -- device loads the request, and answers the chain that it loaded
+  StoreReserved : ℕ → Event
+  StoreRequest : ℕ → ℕ → Event
+  LoadReply : Event
+  LoadRequest : Event
+  StoreReply : Event
   -- stopping and closing
   StoreConfig : Event
   LoadConfig : Event
@@ -99,6 +107,10 @@ read_count e = length e.taken + length e.read
 abbrev pub knowing_taken : DriverView → DeviceView → DriverView
 knowing_taken d e = record d { stop = length e.taken; passed = e.done }
 
+-- the chain that a request asks for
+abbrev pub chain_of : Request → Act
+chain_of r = Chain r.id r.descriptor
+
 -- what an event leaves
 abbrev pub after : Event → Core → Core
 after Split c = record c { seats = Apart }
@@ -139,6 +151,16 @@ after (GiveBack key bytes) c = with_device (with_page_word c key 1 (maybe.some (
 })
 after (HeldSlotOut key) c = with_device (with_page_word c key 4 maybe.none) (record c.device { out = Some key })
 after (HeldSlotHome key) c = with_device (with_page_word c key 2 (maybe.some None)) (record c.device { out = None })
+after (StoreReserved value) c = with_driver (with_word c reserved_word value) (record c.driver { reserved = value })
+after (StoreRequest id first) c = with_driver (with_word c request_word (request_value (next_request c.driver.request id first)))
+    (record c.driver { acts = c.driver.acts ++ Chain id first ∷ []; request = next_request c.driver.request id first })
+after LoadReply c = with_driver c (record c.driver { reply_loads = loaded c.driver.reply_loads (slice_index c.words reply_word) })
+after LoadRequest c = with_device c (record c.device { wanted = c.driver.request; request_loads = loaded c.device.request_loads (slice_index c.words request_word) })
+after StoreReply c = with_device (with_word c reply_word c.device.wanted.number) (record c.device {
+  kept = (step (known_state c.device) (chain_of c.device.wanted)).kept;
+  noted = map.empty;
+  answered = c.device.wanted.number;
+})
 after StoreConfig c = with_driver (with_word c config_word 0) (record c.driver { stopped = true })
 after LoadConfig c = with_device c (record c.device {
   saw_stopped = slice_index c.words config_word == 0;

@@ -15,7 +15,7 @@ use Rattle.svga_ring.specs.SoundActs.{AreAdmissible}
 use Rattle.svga_ring.specs.SoundFences.{AreFencesInOrder}
 use Rattle.svga_ring.specs.SoundPages.{AreAtPlaces, AreClear, IsRunSoFar, reached}
 use Rattle.svga_ring.specs.Requests.{is_chain_out}
-use Rattle.svga_ring.specs.SoundRequests.{AreRequests, IsUnasked}
+use Rattle.svga_ring.specs.SoundRequests.{AreRequests, IsReserving}
 use Rattle.svga_ring.specs.SoundStops.{IsStopping}
 use Rattle.svga_ring.specs.SoundWords.{AreFixed, AreInOrder, AreInPlace, AreLastLoaded, IsKnownWhole}
 use Rattle.svga_ring.specs.Views.{DeviceView, DriverView, Joined, Opening, Terms, opening_layout, terms_of}
@@ -60,7 +60,7 @@ pub record IsSound (k : Session) (c : Core) : Type 0 where
   pub runs : IsRunSoFar (opening_state k.limits k.first) c.driver.acts c.device.done c.device.read c.device.kept c.device.noted c.driver.request c.device.wanted c.device.answered
   pub requests : AreRequests c.words c.driver.acts c.driver.request c.device.wanted c.device.answered c.driver.reply_loads.last c.driver.reserved
   pub stops : IsStopping c.words c.driver.sent c.driver.pending c.driver.stopped c.device.saw_stopped c.device.drained c.device.next c.driver.request.number c.driver.reply_loads.last
-  pub unasked : IsUnasked c.driver.request c.device.wanted c.device.answered c.driver.reply_loads.last c.driver.reserved
+  pub reserving : IsReserving c.driver.terms.way c.driver.pending c.driver.reserved
   pub opening : c.seats ≡ Opening → c ≡ opening_core k
   -- a seat has at most one slot out until the seats are joined
   pub one_slot : c.seats ≢ Joined → (a b : PageKey) → set.contains c.driver.out a ≡ true → set.contains c.driver.out b ≡ true → a ≡ b

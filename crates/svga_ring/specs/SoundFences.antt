@@ -3,8 +3,8 @@ use Rattle.std.specs.Prelude.{◌≡◌, ℕ, ◌+◌, ◌<◌, ◌≤◌, List,
 use Rattle.svga_cmd.specs.Spelling.{Spells}
 use Rattle.svga_cmd.specs.declared.command.Command.{Command}
 use Rattle.svga_cmd.specs.declared.command.Command.TheVariants.{Fence}
-use Rattle.svga_model.specs.Fences.{number_of_fence, register_after}
-use Rattle.svga_ring.specs.Committed.{fences, fences_passed}
+use Rattle.svga_model.specs.Fences.{fences, number_of_fence, register_after}
+use Rattle.svga_ring.specs.Committed.{fences_passed}
 
 -- Fences have their numbers in order; the register shows how many have passed, and the driver has seen no more than that.
 pub record AreFencesInOrder (first : ℕ) (cs : List Command) (done : ℕ) (read : List ℕ) (stored : Bool) (register seen last : ℕ) : Type 0 where

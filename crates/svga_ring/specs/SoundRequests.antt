@@ -1,7 +1,9 @@
 -- What is sound of requests.
-use Rattle.std.specs.Prelude.{◌≡◌, ◌≢◌, ◌⊎◌, ℕ, List, slice_index}
+use Rattle.std.specs.Prelude.{◌≡◌, ◌≢◌, ◌⊎◌, ℕ, List, [], slice_index}
+use Rattle.svga_cmd.specs.declared.session.Way.{Way}
+use Rattle.svga_cmd.specs.declared.session.Way.TheVariants.{Reserve}
 use Rattle.svga_model.specs.Acts.{Act}
-use Rattle.svga_ring.specs.Requests.{IsChainOut, Request, no_request, request_value}
+use Rattle.svga_ring.specs.Requests.{IsChainOut, IsRequest, Request, request_value}
 use Rattle.svga_ring.specs.SharedTable.{reply_word, request_word, reserved_word}
 use Rattle.svga_ring.specs.SoundPages.{IsLastChain}
 
@@ -15,11 +17,9 @@ pub record AreRequests (words : List ℕ) (acts : List Act) (request wanted : Re
   -- what the device loaded last is the request, or one that was answered
   pub loaded_is : (wanted ≡ request) ⊎ (wanted.number ≡ answered)
   pub reserved_is : slice_index words reserved_word ≡ reserved
+  -- so that its word tells the request
+  pub fits : IsRequest request
 
--- Until requests are made there is none, and RESERVED is 0: sentences by themselves, which no other rests on.
-pub record IsUnasked (request wanted : Request) (answered last_reply reserved : ℕ) : Type 0 where
-  pub request_is : request ≡ no_request
-  pub wanted_is : wanted ≡ no_request
-  pub answered_is : answered ≡ 0
-  pub last_reply_is : last_reply ≡ 0
-  pub reserved_is : reserved ≡ 0
+-- By reservations RESERVED isn't 0 while words are pending.
+pub record IsReserving (way : Way) (pending : List ℕ) (reserved : ℕ) : Type 0 where
+  pub while_pending : way ≡ Reserve → pending ≢ [] → reserved ≢ 0

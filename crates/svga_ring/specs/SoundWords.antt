@@ -43,6 +43,8 @@ pub record AreInPlace (lay : Layout) (words sent pending taken : List ℕ) (stop
   -- word i of those sent and pending stands in its cell until it is taken
   pub cells : (i : ℕ) → length taken ≤ i → i < length sent + length pending
       → slice_index words (word_cell lay i) ≡ slice_index (sent ++ pending) i
+  -- each of them is a word of 32 bits
+  pub dwords : (i : ℕ) → i < length sent + length pending → slice_index (sent ++ pending) i < 2 ^ 32
   -- counts of words fit 64 bits with room to spare
   pub short : length sent + length pending ≤ 2 ^ 62
 

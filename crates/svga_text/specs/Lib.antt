@@ -6,5 +6,6 @@ pub mod Names
 pub mod Pages
 pub mod Passing
 pub mod Pictures
+pub mod RaceTexts
 pub mod Rows
 pub mod Runs

@@ -4,6 +4,7 @@ use Rattle.std.specs.FinMap as map
 use Rattle.svga_ring.proofs.CoreHolds.{held_noted}
 use Rattle.svga_ring.proofs.CorePlaces.{out_here}
 use Rattle.svga_ring.proofs.CoreWrongPages.{none_in_hand, still_held}
+use Rattle.svga_ring.proofs.CoreSettled.{all_before_chain}
 use Rattle.svga_ring.specs.SharedTable.{page_word}
 use Rattle.svga_ring.proofs.core_wrong_pages.wrong_page_steps_are_refused.Goals as goal
 
@@ -13,7 +14,11 @@ returns-clause-early_stop c = λ k core command key noted sound is held left.
     let after = left.pages.each key is in
     let still = still_held (sound.pages.place key) (left.pages.place key) _ _ _ _ held before.held_is before.word_is
     (get_or-set_other core.words 3 (page_word k.limits key) _ 0 (λ q. omega arith)) after.word_is after.held_is in
-    none_in_hand left.unasked.request_is left.unasked.answered_is
+    none_in_hand (λ out.
+    let last = sound.requests.out_is_last_chain out in
+    let all = all_before_chain core.driver.request core.driver.acts core.device.done last sound.runs.chains_done in
+    let more = left.of_words.order.done_low in
+    omega (arith, all, more))
     (left.runs.noted_touched key (held_noted (map.get noted key) still))
 
 pub returns-clause-any_fence : goal.returns-clause-any_fence
