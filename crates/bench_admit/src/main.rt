@@ -1,7 +1,7 @@
 //! Admits one blit many times, so that `bench/admit.py` can time it.
 //!
-//! Its argument says how wide the blit is: `wide` is 8,192 pixels, and anything else, or nothing, is one pixel. It has
-//! 4,096 rows, each at the beginning of pages of its own.
+//! Its argument says how wide the blit is: `wide` is 8,192 pixels, and anything else, or nothing, is one
+//! pixel. It has 4,096 rows, each at the beginning of pages of its own.
 #![tactic(auto)]
 
 use std::alloc::{AllocError, Global};

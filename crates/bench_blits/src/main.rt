@@ -1,7 +1,8 @@
-//! Blits of 1,024 by 1,024 pixels to a screen and back, again and again, so that `bench/blits.py` can time them.
+//! Blits of 1,024 by 1,024 pixels to a screen and back, again and again, so that `bench/blits.py` can time
+//! them.
 //!
-//! Its arguments are the work (`show`, `back` or `copy`), a format (`32`, `24`, `16` or `15`) and how often. With no
-//! arguments each format is shown and read back once.
+//! Its arguments are the work (`show`, `back` or `copy`), a format (`32`, `24`, `16` or `15`) and how
+//! often. With no arguments each format is shown and read back once.
 #![tactic(auto)]
 
 ghost use Rattle.std.specs.Prelude.{◌≤◌};

@@ -1,7 +1,7 @@
 //! Goes through one row of 4,096 pixels again and again, so that `bench/pixels.py` can time it.
 //!
-//! Its arguments are the work (`read`, `write` or `copy`), a format (`32`, `24`, `16` or `15`) and how often. With no
-//! arguments each format is read and written once.
+//! Its arguments are the work (`read`, `write` or `copy`), a format (`32`, `24`, `16` or `15`) and how
+//! often. With no arguments each format is read and written once.
 #![tactic(auto)]
 
 use std::{env, io};

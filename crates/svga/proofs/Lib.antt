@@ -1,5 +1,4 @@
 mod BytesLaws
-mod Listed
 mod ListingLaws
 mod MappedLaws
 mod RangeLaws

@@ -1,5 +1,6 @@
 -- Answers for guest pages, as they are marked.
 use Rattle.std.proofs.Common.{◌≡◌, ◌≢◌, ℕ, zero, suc, ◌+◌, ◌<◌, ◌≤◌, ◌==◌, Bool, true, false, cond, ◌||◌, List, [], ◌∷◌, length, map as map_list, take, set, get_or, slice_index_or, Option, Some, None, unwrap_or, option_map, refl, sym, ap, ◌∙◌, arith, replicate}
+use Rattle.svga_cmd.specs.declared.constants.TheConstants.{REGION_IDS}
 use Rattle.std.proofs.lemmas.Bool.Decides.{nat_tests}
 use Rattle.std.proofs.lemmas.List.{ext_get_or, get_or-set_other, get_or-set_same, take_all}
 use Rattle.std.proofs.lemmas.List.Folds.{list_any-append, list_any_more}
@@ -9,9 +10,10 @@ use Rattle.std.specs.List.{list_any, range_with_len}
 use Rattle.svga.proofs.RangeLaws.{range-next}
 use Rattle.svga.specs.Mapped.{AreMapped, AreMarked, defined_list, in_first}
 use Rattle.svga_cmd.specs.Pages.{key_cmp}
+use Rattle.svga_cmd.specs.declared.constants.TheConstants.{SVGA_GMR_FRAMEBUFFER}
 use Rattle.svga_cmd.specs.declared.page.PageKey.{PageKey}
 use Rattle.svga_cmd.specs.declared.page.PageKey.TheVariants.{Guest, Frame}
-use Rattle.svga_model.specs.Regions.{Places, Regions, defined_places, frame_places, frame_region, places_of}
+use Rattle.svga_model.specs.Regions.{Places, Regions, defined_places, frame_places, places_of}
 use Rattle.svga_model.specs.Runs.{in_regions}
 use Rattle.svga_model.specs.States.{Kept, frame_pages}
 use Rattle.svga_model.specs.Touches.{has_page, is_page}
@@ -137,10 +139,10 @@ unfolding in_first
 marked_begin xs regions = marked_none (in_first regions 0) xs (λ key. refl)
 
 -- the regions by the ids that commands may use
-pub places_small : (frame : ℕ) (regions : Regions) (id : ℕ) → id < 4096
+pub places_small : (frame : ℕ) (regions : Regions) (id : ℕ) → id < REGION_IDS
     → places_of frame regions id ≡ defined_places regions id
 places_small frame regions id less = ap (λ t. cond t (Some (frame_places frame)) (defined_places regions id))
-    (let t : (id == frame_region) ≡ false = grind (arith, nat_tests) in t)
+    (let t : (id == SVGA_GMR_FRAMEBUFFER) ≡ false = grind (arith, nat_tests) in t)
 
 -- their lengths
 pub length_some : (o : Option Places) (count : ℕ) → Some count ≡ option_map length o → length (unwrap_or o []) ≡ count
@@ -166,11 +168,11 @@ unfolding has_page
 guest_outside frame p = not_in_frame p (range_with_len 0 frame)
 
 -- so it stands in a region that commands define, or in none
-in_regions-guest : (k : Kept) (p : ℕ) → in_regions k (Guest p) ≡ in_first k.regions 4096 (Guest p)
+in_regions-guest : (k : Kept) (p : ℕ) → in_regions k (Guest p) ≡ in_first k.regions REGION_IDS (Guest p)
 unfolding in_regions in_first
 in_regions-guest k p =
     let test : ℕ → Bool = λ id. has_page (defined_list k.regions id) (Guest p) in
-    ap (λ b. b || list_any test (range_with_len 0 4096)) (guest_outside (frame_pages k) p)
+    ap (λ b. b || list_any test (range_with_len 0 REGION_IDS)) (guest_outside (frame_pages k) p)
 
 get_or-replicate : (n p : ℕ) → get_or (replicate n false) p false ≡ false
 get_or-replicate zero p = refl
@@ -184,13 +186,13 @@ length-falses (suc n) = ap suc (length-falses n)
 -- the answers are there where all regions are marked
 pub marked_mapped : (k : Kept) (before now : List Bool) → before ≡ replicate k.limits.pages false
     → length now ≡ length before
-    → AreMarked (in_first k.regions 4096) before now → AreMapped k now
+    → AreMarked (in_first k.regions REGION_IDS) before now → AreMapped k now
 marked_mapped k before now begins same marked =
     let n = k.limits.pages in
     let f : ℕ → Bool = λ p. in_regions k (Guest p) in
     let size : length now ≡ n = same ∙ ap length begins ∙ length-falses n in
     ext_get_or false now (map_list f (range_with_len 0 n)) (size ∙ sym (length-map-range_with_len f 0 n))
     (λ p less. marked p (omega (arith, same, less))
-    ∙ ap (λ b. b || in_first k.regions 4096 (Guest p)) (ap (λ xs. get_or xs p false) begins ∙ get_or-replicate n p)
+    ∙ ap (λ b. b || in_first k.regions REGION_IDS (Guest p)) (ap (λ xs. get_or xs p false) begins ∙ get_or-replicate n p)
     ∙ sym (in_regions-guest k p) ∙ sym
     (get_or-map-range_with_len f 0 n p p false (omega (arith, size, less)) (omega arith)))

@@ -13,19 +13,21 @@ use Rattle.svga.specs.Mapped.{AreMapped, mapped_page}
 use Rattle.svga.specs.ReplayTexts.{no_capture_text, pages_text, region_keys, replay_status, replay_text, shown_page}
 use Rattle.svga.specs.Telling.{Tells}
 use Rattle.svga.specs.declared.form.Form.TheVariants as form
-use Rattle.svga_capture.specs.Replayed.{IsReplayOf, end_of, replay_in}
+use Rattle.svga_capture.specs.Replayed.{IsReplayOf, replay_in}
 use Rattle.svga_capture.specs.declared.replaying.Replayed.{Replayed}
 use Rattle.svga_cmd.specs.Limits.{frame_page_count}
 use Rattle.svga_cmd.specs.Pages.{Memory, page_at}
+use Rattle.svga_cmd.specs.declared.capture_cause.CaptureCause.{CaptureCause}
 use Rattle.svga_cmd.specs.declared.command.Command.{Command}
+use Rattle.svga_cmd.specs.declared.constants.TheConstants.{REGION_IDS}
+use Rattle.svga_cmd.specs.declared.ending.Ending.{Ending}
 use Rattle.svga_cmd.specs.declared.page.PageKey.{PageKey}
 use Rattle.svga_cmd.specs.declared.page.PageKey.TheVariants.{Guest, Frame}
 use Rattle.svga_io.specs.Growing.{Grows}
 use Rattle.svga_io.specs.declared.fault.WriteFault.{WriteFault}
 use Rattle.svga_model.proofs.TouchPages.{has_place}
-use Rattle.svga_model.specs.CaptureFields.{Flaw}
 use Rattle.svga_model.specs.Captures.{Capture, capture_of}
-use Rattle.svga_model.specs.Endings.{End, IsEnding}
+use Rattle.svga_model.specs.Endings.{IsEnding}
 use Rattle.svga_model.specs.Regions.{frame_places}
 use Rattle.svga_model.specs.Replays.{IsWithinRegions, replay_of}
 use Rattle.svga_model.specs.Runs.{in_regions}
@@ -41,7 +43,7 @@ frame_stands : (k : Kept) (n : ℕ) → n < frame_pages k → in_regions k (Fram
 unfolding in_regions
 frame_stands k n less =
     let test : ℕ → Bool = λ id. has_page (defined_list k.regions id) (Frame n) in
-    ap (λ b. b || list_any test (range_with_len 0 4096))
+    ap (λ b. b || list_any test (range_with_len 0 REGION_IDS))
     (has_place (frame_places (frame_pages k)) n (Frame n) (frame_place (frame_pages k) n less))
 
 -- the texts of the keys that pass a test
@@ -129,9 +131,9 @@ module _ {K : Type 0} {held : K → Option (List ℕ)} {faults : K → ℕ} wher
 
 -- a replay of a capture tells its status and its text
 pub replayed : (c : Capture) (r : Replayed) (status : ℕ) → IsReplayOf c r
-    → ((cs : List Command) (end : End) → IsEnding c.words cs end
+    → ((cs : List Command) (end : Ending) → IsEnding c.words cs end
     → (replay_in r ≡ replay_of c.opening cs end) × IsWithinRegions c.opening cs end)
-    → status ≡ replay_status (end_of r.ending) → IsReplayed c status (replay_text (replay_in r))
+    → status ≡ replay_status r.ending → IsReplayed c status (replay_text (replay_in r))
 replayed c r status is within tells =
     let cs = is.replay.commands in
     let end = is.replay.end in
@@ -165,9 +167,9 @@ module _ {K : Type 0} {held : K → Option (List ℕ)} {faults : K → ℕ} wher
       inr (status, text, input.replayed c is tells, wrote)
 
   -- and one that is none
-  pub of_none : (before now : K) (bytes : List ℕ) (place : ℕ) (flaw : Flaw) (answer : ℕ)
-      → capture_of bytes ≡ Err (place, flaw)
-      → Tells held faults before now (no_capture_text place flaw) 3 answer
+  pub of_none : (before now : K) (bytes : List ℕ) (byte : ℕ) (cause : CaptureCause) (answer : ℕ)
+      → capture_of bytes ≡ Err (byte, cause)
+      → Tells held faults before now (no_capture_text byte cause) 3 answer
       → TellsInput held faults before now form.Replay bytes answer
-  of_none before now bytes place flaw answer is wrote =
-      inr (3, no_capture_text place flaw, input.no_capture place flaw is refl refl, wrote)
+  of_none before now bytes byte cause answer is wrote =
+      inr (3, no_capture_text byte cause, input.no_capture byte cause is refl refl, wrote)

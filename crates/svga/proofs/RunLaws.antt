@@ -6,7 +6,7 @@ use Rattle.std.specs.Option.{option_and_then}
 use Rattle.std.specs.Prelude.{Option, String}
 use Rattle.std.specs.declared.alloc.Global.{Global}
 use Rattle.svga.specs.Bytes.{IsEndingOfBytes, IsSentenceInBytes, torn_by, words_in}
-use Rattle.svga.specs.Due.{IsComplete, IsDue, IsRun, SourceTells, GivesAll, TakesAtMost, TakesMore, WasHad, had, longest, read_fault, too_long, usage}
+use Rattle.svga.specs.Due.{IsComplete, IsDone, IsDue, IsRun, SourceTells, GivesAll, TakesAtMost, TakesMore, WasHad, had, read_fault, too_long, source_tells, usage}
 use Rattle.svga.specs.Forms.{AsksFor, IsAsked, form_word}
 use Rattle.svga.specs.Inputs.{IsOfInput, IsReplayed, IsWholeInput, TellsInput, no_capture, replayed}
 use Rattle.svga.specs.ReplayTexts.{replay_status, replay_text}
@@ -15,15 +15,20 @@ use Rattle.svga.specs.Texts.{words_status, words_text}
 use Rattle.svga.specs.declared.form.Form.{Form}
 use Rattle.svga.specs.declared.form.Form.TheVariants.{Words, Replay}
 use Rattle.svga_cmd.specs.declared.command.Command.{Command}
+use Rattle.svga_cmd.specs.declared.constants.TheConstants.{MAX_INPUT_BYTES}
+use Rattle.svga_cmd.specs.declared.ending.Ending.{Ending}
+use Rattle.svga_cmd.specs.declared.ending.Ending.TheVariants.{Refused, Torn, Whole}
+use Rattle.svga_cmd.specs.declared.ending.ReplayEnd.{ReplayEnd}
+use Rattle.svga_cmd.specs.declared.ending.ReplayEnd.TheVariants as replay
 use Rattle.svga_io.specs.Growing.{Grows}
 use Rattle.svga_io.specs.Taking.{taken_count}
 use Rattle.svga_model.proofs.GrammarEndings.{one_ending, whole_ending}
 use Rattle.svga_model.proofs.GrammarFronts.{nothing_begun}
 use Rattle.svga_model.specs.Acts.{Act, Do}
 use Rattle.svga_model.specs.Captures.{Capture}
-use Rattle.svga_model.specs.Endings.{End, IsEnding, Refused, Torn, Whole}
+use Rattle.svga_model.specs.Endings.{IsEnding}
 use Rattle.svga_model.specs.Faults.{fault_of}
-use Rattle.svga_model.specs.Replays.{AtEnd, AtFault, ReplayEnd, acts_of, replay_end, replay_of}
+use Rattle.svga_model.specs.Replays.{acts_of, replay_end, replay_of}
 use Rattle.svga_model.specs.Runs.{done, run, stopping_fault}
 use Rattle.svga_model.specs.Sentences.{IsSentence, spelling_all}
 use Rattle.svga_model.specs.States.{State}
@@ -82,21 +87,23 @@ takes_more (Some left) (Some now) limit P counts long told =
     let more : limit < length left - length now = counts.0 long in omega arith
 
 -- a status that an input gets is no 5 and no 6
-words_status-small : (end : End) → words_status end ≤ 3
+words_status-small : (end : Ending) → words_status end ≤ 3
 words_status-small Whole = omega arith
-words_status-small (Refused word why) = omega arith
+words_status-small (Refused word cause) = omega arith
 words_status-small (Torn count) = omega arith
 
 replay_status-small : (end : ReplayEnd) → replay_status end ≤ 3
-replay_status-small (AtEnd end) = words_status-small end
-replay_status-small (AtFault command fault) = omega arith
+replay_status-small replay.Whole = omega arith
+replay_status-small (replay.Refused word cause) = omega arith
+replay_status-small (replay.Torn word) = omega arith
+replay_status-small (replay.Fault command fault) = omega arith
 
 status-small : (form : Form) (bytes : List ℕ) (status : ℕ) (text : List ℕ) → IsOfInput form bytes status text
     → status ≤ 3
 status-small Words bytes status text of = omega (arith, of.status_is, words_status-small of.end)
 status-small Replay bytes status text (replayed c is of) =
     let end = (replay_of c.opening of.commands of.end).ending in omega (arith, of.status_is, replay_status-small end)
-status-small Replay bytes status text (no_capture place flaw is status_is text_is) = omega arith
+status-small Replay bytes status text (no_capture byte cause is status_is text_is) = omega arith
 
 -- a sentence ends whole
 sentence_ending : (cs : List Command) (ws : List ℕ) → IsSentence cs ws → IsEnding ws cs Whole
@@ -107,7 +114,7 @@ sentence_ending cs ws sentence = whole_ending ws cs (record {
 })
 
 -- a sentence in bytes is whole, and its commands are those of the front
-sentence_in_bytes : (bytes : List ℕ) (cs ds : List Command) (end : End) → IsSentenceInBytes cs bytes
+sentence_in_bytes : (bytes : List ℕ) (cs ds : List Command) (end : Ending) → IsSentenceInBytes cs bytes
     → IsEndingOfBytes bytes ds end → (ds ≡ cs) × (end ≡ Whole)
 sentence_in_bytes bytes cs ds end sentence ending =
     let whole = sentence_ending cs (words_in bytes) sentence.words in
@@ -124,7 +131,7 @@ all_done s acts all =
 
 -- and a replay that does all commands ends as its words do
 whole_end : (s : State) (cs : List Command) → done s (acts_of cs) ≡ length cs
-    → (replay_of s cs Whole).ending ≡ AtEnd Whole
+    → (replay_of s cs Whole).ending ≡ replay.Whole
 whole_end s cs all =
     let no_fault = all_done s (acts_of cs) (all ∙ sym (length-map cs Do)) in
     ap (λ fault. replay_end (done s (acts_of cs)) fault Whole) no_fault
@@ -150,7 +157,7 @@ told_whole Words bytes status text due (cs, sentence, is) of =
 told_whole Replay bytes status text due (c, held, cs, sentence, all, is) (replayed d held_too of) =
     let told = replayed_whole c d cs status text (cc (held, held_too)) sentence all of in
     (told.0, told.1 ∙ sym is)
-told_whole Replay bytes status text due whole (no_capture place flaw none status_is text_is) =
+told_whole Replay bytes status text due whole (no_capture byte cause none status_is text_is) =
     absurd (cc (whole.1, none))
 
 -- words ask for one form
@@ -202,7 +209,7 @@ module _ {K : Type 0} {words : List (String Global)} {s : SourceTells} {held : K
           let of_form = subst (λ f. IsOfInput f bytes status text) (one_form words other form also asked) of_these in
           told_whole form bytes status text due whole of_form
       zero_of (read_fault also rose few_taken is text_is) = absurd (steady rose)
-      zero_of (too_long also more is text_is) = absurd (not_more bytes s.before s.now longest told few more)
+      zero_of (too_long also more is text_is) = absurd (not_more bytes s.before s.now MAX_INPUT_BYTES told few more)
 
       by : (status ≡ 5) ⊎ (status ≢ 5) → (status ≡ 6) ⊎ (status ≢ 6)
           → ((status ≡ 0) × Grows held faults before now due) ⊎ (status ≡ 6)
@@ -212,3 +219,11 @@ module _ {K : Type 0} {words : List (String Global)} {s : SourceTells} {held : K
           let last = run.told not5 not6 in
           let zero = zero_of last.1 in
           inl (zero.0, subst (Grows held faults before now) zero.1 last.2)
+
+-- a run ends so, of which nothing was read where the words are no form
+pub is_done : {S K : Type 0} {words : List (String Global)} {left : S → Option (List ℕ)} {source_faults : S → ℕ}
+    {source source_now : S} {held : K → Option (List ℕ)} {faults : K → ℕ} {sink sink_now : K} (status : ℕ)
+    → IsRun words (source_tells left source_faults source source_now) held faults sink sink_now status
+    → ((IsAsked words → ⊥) → source_now ≡ source)
+    → IsDone words left source_faults source source_now held faults sink sink_now status
+is_done status run unread = record { run = run; unread = unread; complete = run_complete status run }

@@ -10,7 +10,7 @@ use Rattle.svga_cmd.specs.declared.page.PageKey.{PageKey}
 use Rattle.svga_model.proofs.OnlyPlaces.{rest_met}
 use Rattle.svga_model.proofs.RunLaws.{run-first}
 use Rattle.svga_model.specs.Acts.{Act}
-use Rattle.svga_model.specs.Endings.{End}
+use Rattle.svga_cmd.specs.declared.ending.Ending.{Ending}
 use Rattle.svga_model.specs.Faults.{is_admissible}
 use Rattle.svga_model.specs.Replays.{IsWithinRegions, Replay, acts_of, replay_of}
 use Rattle.svga_model.specs.Runs.{in_regions, is_met, on_walk, only, run}
@@ -78,7 +78,7 @@ text-same r q commands ending kept pages =
     λ i. line (codes "commands") (decimal (commands i) ∷ []) ++ fence_text (kept i).fence
     ++ screens_text (kept i).screens ++ shown i ++ replay_end_text (ending i)
 
-pub within-text : (s : State) (cs : List Command) (end : End) → IsWithinRegions s cs end
+pub within-text : (s : State) (cs : List Command) (end : Ending) → IsWithinRegions s cs end
     → replay_text (replay_of s cs end) ≡ replay_text (replay_of (only s (acts_of cs)) cs end)
 within-text s cs end is = sym (text-same (replay_of (only s (acts_of cs)) cs end)
     (replay_of s cs end) is.commands is.ending is.kept

@@ -5,14 +5,12 @@ use Rattle.svga.specs.Forms.{AsksFor, IsAsked}
 use Rattle.svga.specs.Inputs.{IsOfInput, IsWholeInput}
 use Rattle.svga.specs.Texts.{usage_text, read_fault_text, too_long_text}
 use Rattle.svga.specs.declared.form.Form.{Form}
+use Rattle.svga_cmd.specs.declared.constants.TheConstants.{MAX_INPUT_BYTES}
 use Rattle.svga_io.specs.Growing.{Grows, GrowsByPrefix}
 use Rattle.svga_io.specs.Rising.{Rises}
 
--- the longest input, in bytes
-abbrev pub longest : ℕ
-longest = 134217728
-
--- what a source tells: the bytes that it had left and has left now, if it tells them, and its counts of faults
+-- what a source tells: the bytes that it had left and has left now, if it tells them, and its counts of
+-- faults
 pub record SourceTells : Type 0 where
   pub before : Option (List ℕ)
   pub now : Option (List ℕ)
@@ -20,7 +18,8 @@ pub record SourceTells : Type 0 where
   pub faults_now : ℕ
 
 abbrev pub source_tells : {S : Type 0} → (S → Option (List ℕ)) → (S → ℕ) → S → S → SourceTells
-source_tells left faults before now = record { before = left before; now = left now; faults_before = faults before; faults_now = faults now }
+source_tells left faults before now = record
+    { before = left before; now = left now; faults_before = faults before; faults_now = faults now }
 
 -- The next three say nothing of a source that doesn't tell its bytes.
 
@@ -44,36 +43,55 @@ TakesMore limit (Some left) (Some now) = limit + length now < length left
 -- the input was read to its end, and these are its bytes
 pub record WasHad (s : SourceTells) (bytes : List ℕ) : Type 0 where
   pub all : GivesAll s.before s.now bytes
-  pub few : length bytes ≤ longest
+  pub few : length bytes ≤ MAX_INPUT_BYTES
 
--- The status and the text that are due. Where a source tells its bytes, one case alone fits, but that a source may fail
--- and the input be read all the same.
+-- The status and the text that are due. Where a source tells its bytes, one case alone fits, but that a
+-- source may fail and the input be read all the same.
 pub data IsDue (words : List (String Global)) (s : SourceTells) (status : ℕ) (text : List ℕ) : Type 0 where
   -- the words are no form of the program
   usage : (IsAsked words → ⊥) → status ≡ 2 → text ≡ usage_text → IsDue words s status text
   -- the input was read to its end: the text and the status are those of its bytes
-  had : (form : Form) → AsksFor form words → (bytes : List ℕ) → WasHad s bytes → IsOfInput form bytes status text
+  had : (form : Form) → AsksFor form words → (bytes : List ℕ) → WasHad s bytes
+      → IsOfInput form bytes status text
       → IsDue words s status text
   -- the source failed
-  read_fault : IsAsked words → Rises s.faults_before s.faults_now → TakesAtMost longest s.before s.now
+  read_fault : IsAsked words → Rises s.faults_before s.faults_now → TakesAtMost MAX_INPUT_BYTES s.before s.now
       → status ≡ 4 → text ≡ read_fault_text → IsDue words s status text
   -- the input is too long
-  too_long : IsAsked words → TakesMore longest s.before s.now
+  too_long : IsAsked words → TakesMore MAX_INPUT_BYTES s.before s.now
       → status ≡ 7 → text ≡ too_long_text → IsDue words s status text
 
 -- how a run ends with this status
-pub record IsRun {K : Type 0} (words : List (String Global)) (s : SourceTells) (held : K → Option (List ℕ)) (faults : K → ℕ)
+pub record IsRun {K : Type 0} (words : List (String Global)) (s : SourceTells) (held : K → Option (List ℕ))
+    (faults : K → ℕ)
     (before now : K) (status : ℕ) : Type 0 where
   -- at every status but 5 and 6: the text that is due with this status was written whole
-  pub told : status ≢ 5 → status ≢ 6 → (text : List ℕ) × IsDue words s status text × Grows held faults before now text
+  pub told : status ≢ 5 → status ≢ 6 → (text : List ℕ) × IsDue words s status text
+      × Grows held faults before now text
   -- at status 5: the sink failed, and a prefix of a text that is due was written
-  pub write_fault : status ≡ 5 → (status_due : ℕ) × (text : List ℕ) × IsDue words s status_due text × GrowsByPrefix held faults before now text
+  pub write_fault : status ≡ 5 → (status_due : ℕ) × (text : List ℕ) × IsDue words s status_due text
+      × GrowsByPrefix held faults before now text
   -- at status 6: no memory was found, and nothing was written
   pub memory : status ≡ 6 → IsAsked words × (now ≡ before)
 
--- an input within the limit that is whole is told whole, unless the source or the sink fails or memory is short
-abbrev pub IsComplete : {K : Type 0} → List (String Global) → SourceTells → (K → Option (List ℕ)) → (K → ℕ) → K → K → ℕ → Type 0
+-- an input within the limit that is whole is told whole, unless the source or the sink fails or memory is
+-- short
+abbrev pub IsComplete : {K : Type 0} → List (String Global) → SourceTells → (K → Option (List ℕ)) → (K → ℕ)
+    → K → K → ℕ → Type 0
 IsComplete words s held faults before now status = (form : Form) (bytes text : List ℕ) → AsksFor form words
-    → s.before ≡ Some bytes → length bytes ≤ longest → IsWholeInput form bytes text
+    → s.before ≡ Some bytes → length bytes ≤ MAX_INPUT_BYTES → IsWholeInput form bytes text
     → (Rises s.faults_before s.faults_now → ⊥) → (Rises (faults before) (faults now) → ⊥)
     → ((status ≡ 0) × Grows held faults before now text) ⊎ (status ≡ 6)
+
+-- how a run ends with this status, of a source and a sink that are seen so
+pub record IsDone {S K : Type 0} (words : List (String Global)) (left : S → Option (List ℕ))
+    (source_faults : S → ℕ)
+    (source source_now : S) (held : K → Option (List ℕ)) (faults : K → ℕ) (sink sink_now : K) (status : ℕ) :
+    Type 0 where
+  -- what is due, by the words and by what was read, is told
+  pub run : IsRun words (source_tells left source_faults source source_now) held faults sink sink_now status
+  -- nothing is read where the words are no form
+  pub unread : (IsAsked words → ⊥) → source_now ≡ source
+  -- a whole input is told whole
+  pub complete : IsComplete words (source_tells left source_faults source source_now) held faults sink
+      sink_now status

@@ -7,9 +7,11 @@ use Rattle.svga.specs.Texts.{words_status, words_text}
 use Rattle.svga.specs.declared.form.Form.{Form}
 use Rattle.svga.specs.declared.form.Form.TheVariants.{Words, Replay}
 use Rattle.svga_cmd.specs.declared.command.Command.{Command}
-use Rattle.svga_model.specs.CaptureFields.{Flaw}
+use Rattle.svga_cmd.specs.declared.capture_cause.CaptureCause.{CaptureCause}
+use Rattle.svga_cmd.specs.declared.ending.Ending.{Ending}
+use Rattle.svga_cmd.specs.declared.ending.Ending.TheVariants.{Whole}
 use Rattle.svga_model.specs.Captures.{Capture, capture_of}
-use Rattle.svga_model.specs.Endings.{End, IsEnding, Whole}
+use Rattle.svga_model.specs.Endings.{IsEnding}
 use Rattle.svga_model.specs.Replays.{acts_of, replay_of}
 use Rattle.svga_model.specs.Runs.{done, only}
 use Rattle.svga_model.specs.Sentences.{IsSentence}
@@ -17,16 +19,16 @@ use Rattle.svga_model.specs.Sentences.{IsSentence}
 -- as FIFO words: these commands stand at the front, and they end so behind them
 pub record IsListed (bytes : List ℕ) (status : ℕ) (text : List ℕ) : Type 0 where
   pub commands : List Command
-  pub end : End
+  pub end : Ending
   pub ending : IsEndingOfBytes bytes commands end
   pub status_is : status ≡ words_status end
   pub text_is : text ≡ words_text commands end
 
--- As a capture that is one: these commands stand at the front of its words, and they end so behind them. The text is also
--- that of the replay over the pages of its regions alone.
+-- As a capture that is one: these commands stand at the front of its words, and they end so behind them. The
+-- text is also that of the replay over the pages of its regions alone.
 pub record IsReplayed (c : Capture) (status : ℕ) (text : List ℕ) : Type 0 where
   pub commands : List Command
-  pub end : End
+  pub end : Ending
   pub ending : IsEnding c.words commands end
   pub status_is : status ≡ replay_status (replay_of c.opening commands end).ending
   pub text_is : text ≡ replay_text (replay_of c.opening commands end)
@@ -34,23 +36,28 @@ pub record IsReplayed (c : Capture) (status : ℕ) (text : List ℕ) : Type 0 wh
 
 -- as a capture: it is one, or it is none, from this byte on and for this reason
 pub data IsOfCapture (bytes : List ℕ) (status : ℕ) (text : List ℕ) : Type 0 where
-  replayed : (c : Capture) → capture_of bytes ≡ Ok c → IsReplayed c status text → IsOfCapture bytes status text
-  no_capture : (place : ℕ) (flaw : Flaw) → capture_of bytes ≡ Err (place, flaw)
-      → status ≡ 3 → text ≡ no_capture_text place flaw → IsOfCapture bytes status text
+  replayed : (c : Capture) → capture_of bytes ≡ Ok c → IsReplayed c status text
+      → IsOfCapture bytes status text
+  no_capture : (byte : ℕ) (cause : CaptureCause) → capture_of bytes ≡ Err (byte, cause)
+      → status ≡ 3 → text ≡ no_capture_text byte cause → IsOfCapture bytes status text
 
 abbrev pub IsOfInput : Form → List ℕ → ℕ → List ℕ → Type 0
 IsOfInput Words = IsListed
 IsOfInput Replay = IsOfCapture
 
--- The input gets its text and its status, or 5 and a prefix of the text; or no memory was found, and nothing was written.
+-- The input gets its text and its status, or 5 and a prefix of the text; or no memory was found, and nothing
+-- was written.
 abbrev pub TellsInput : {K : Type 0} → (K → Option (List ℕ)) → (K → ℕ) → K → K → Form → List ℕ → ℕ → Type 0
 TellsInput held faults before now form bytes answer =
     ((answer ≡ 6) × (now ≡ before))
-    ⊎ ((status : ℕ) × (text : List ℕ) × IsOfInput form bytes status text × Tells held faults before now text status answer)
+    ⊎ ((status : ℕ) × (text : List ℕ) × IsOfInput form bytes status text
+    × Tells held faults before now text status answer)
 
--- the input is one that is told with status 0, and this is its text: a sentence, or a capture whose words are one of which
--- no command is refused
+-- the input is one that is told with status 0, and this is its text: a sentence, or a capture whose words are
+-- one of which no command is refused
 abbrev pub IsWholeInput : Form → List ℕ → List ℕ → Type 0
-IsWholeInput Words bytes text = (cs : List Command) × IsSentenceInBytes cs bytes × (text ≡ words_text cs Whole)
-IsWholeInput Replay bytes text = (c : Capture) × (capture_of bytes ≡ Ok c) × (cs : List Command) × IsSentence cs c.words
+IsWholeInput Words bytes text = (cs : List Command) × IsSentenceInBytes cs bytes
+    × (text ≡ words_text cs Whole)
+IsWholeInput Replay bytes text = (c : Capture) × (capture_of bytes ≡ Ok c) × (cs : List Command)
+    × IsSentence cs c.words
     × (done c.opening (acts_of cs) ≡ length cs) × (text ≡ replay_text (replay_of c.opening cs Whole))

@@ -5,21 +5,24 @@ use Rattle.std.specs.List.{flat_map, list_all}
 use Rattle.svga.specs.Texts.{end_text, fence_text, words_status}
 use Rattle.svga_cmd.specs.Fault.{number_of}
 use Rattle.svga_cmd.specs.Pages.{Memory}
+use Rattle.svga_cmd.specs.declared.capture_cause.CaptureCause.{CaptureCause}
+use Rattle.svga_cmd.specs.declared.ending.Ending.TheVariants as end
+use Rattle.svga_cmd.specs.declared.ending.ReplayEnd.{ReplayEnd}
+use Rattle.svga_cmd.specs.declared.ending.ReplayEnd.TheVariants.{Whole, Refused, Torn, Fault}
 use Rattle.svga_cmd.specs.declared.page.PageKey.{PageKey}
-use Rattle.svga_model.specs.CaptureFields.{Flaw}
-use Rattle.svga_model.specs.Endings as end
 use Rattle.svga_model.specs.Memories.{page_bytes}
-use Rattle.svga_model.specs.Replays.{Replay, ReplayEnd, AtEnd, AtFault}
+use Rattle.svga_model.specs.Replays.{Replay}
 use Rattle.svga_model.specs.Runs.{in_regions}
 use Rattle.svga_model.specs.States.{Kept, all_keys}
 use Rattle.svga_text.specs.Lines.{line}
-use Rattle.svga_text.specs.Names.{fault_name, flaw_name}
+use Rattle.svga_text.specs.Names.{capture_cause_name, fault_name}
 use Rattle.svga_text.specs.Pages.{page_text}
 use Rattle.svga_text.specs.Pictures.{screens_text}
 
 -- a page, but for one that is all 0
 abbrev pub shown_page : Memory → PageKey → List ℕ
-shown_page m key = if list_all (λ byte. byte == 0) (page_bytes m key) then [] else page_text key (page_bytes m key)
+shown_page m key = if list_all (λ byte. byte == 0) (page_bytes m key) then [] else page_text key
+    (page_bytes m key)
 
 -- the pages that stand in a region: those of guest memory, and then the framebuffer's, by ascending number
 abbrev pub region_keys : Kept → List PageKey
@@ -30,10 +33,11 @@ pages_text m keys = flat_map (shown_page m) keys
 
 -- how it ended
 abbrev pub replay_end_text : ReplayEnd → List ℕ
-replay_end_text (AtEnd end.Whole) = line (codes "end") []
-replay_end_text (AtEnd (end.Refused word why)) = end_text (end.Refused word why)
-replay_end_text (AtEnd (end.Torn count)) = end_text (end.Torn count)
-replay_end_text (AtFault command fault) = line (codes "fault at command") (decimal command ∷ decimal (number_of fault) ∷ fault_name fault ∷ [])
+replay_end_text Whole = line (codes "end") []
+replay_end_text (Refused word cause) = end_text (end.Refused word cause)
+replay_end_text (Torn word) = end_text (end.Torn word)
+replay_end_text (Fault command fault) = line (codes "fault at command")
+    (decimal command ∷ decimal (number_of fault) ∷ fault_name fault ∷ [])
 
 -- the text of `replay` for a capture with this replay
 abbrev pub replay_text : Replay → List ℕ
@@ -46,9 +50,11 @@ replay_text r =
 
 -- its status
 abbrev pub replay_status : ReplayEnd → ℕ
-replay_status (AtEnd end) = words_status end
-replay_status (AtFault command fault) = 1
+replay_status Whole = words_status end.Whole
+replay_status (Refused word cause) = words_status (end.Refused word cause)
+replay_status (Torn word) = words_status (end.Torn word)
+replay_status (Fault command fault) = 1
 
 -- the text for bytes that are no capture
-abbrev pub no_capture_text : ℕ → Flaw → List ℕ
-no_capture_text place flaw = line (codes "capture byte") (decimal place ∷ flaw_name flaw ∷ [])
+abbrev pub no_capture_text : ℕ → CaptureCause → List ℕ
+no_capture_text byte cause = line (codes "capture byte") (decimal byte ∷ capture_cause_name cause ∷ [])

@@ -1,10 +1,10 @@
 //! Bytes as words, and how bytes behind the last word change an ending.
 ghost use Rattle.std.specs.Prelude.{◌≡◌, ◌≤◌, length, IfOk};
 ghost use Rattle.svga.specs.Bytes.{torn_by, words_in};
-ghost use Rattle.svga_decode.specs.Scans.{end_of};
 
 use byteorder::{ByteOrder, LittleEndian};
 use std::alloc::{AllocError, Global};
+use svga_cmd::constants::MAX_INPUT_BYTES;
 use svga_decode::Ending;
 
 /// The words in these bytes, the lowest byte of each first. Bytes that are no whole word are left out.
@@ -19,8 +19,8 @@ pub fn words_of(alloc: Global, bytes: &[u8]) -> Result<Vec<u32>, AllocError>
 
 /// How the bytes end whose words end so.
 pub fn ending_of(bytes: &[u8], ending: Ending) -> Ending
-    requires { length bytes.now ≤ 134217728 }
-    ensures { end_of result ≡ torn_by bytes.now (end_of ending) }
+    requires { length bytes.now ≤ MAX_INPUT_BYTES }
+    ensures { result ≡ torn_by bytes.now ending }
 {
     match ending {
         Ending::Whole if bytes.len() % 4 != 0 => Ending::Torn {

@@ -1,51 +1,56 @@
 //! The lines of the commands in words.
-ghost use Rattle.std.specs.Prelude.{◌≡◌, ◌≤◌, length};
+ghost use Rattle.std.specs.Prelude.{◌≤◌, length};
 ghost use Rattle.svga.specs.Lists.{Lists};
-ghost use Rattle.svga_cmd.specs.Spelling.{Spells};
-ghost use Rattle.svga_cmd.specs.declared.command.Command.{Command};
-ghost use Rattle.svga_decode.specs.Reading.{fresh};
-ghost use Rattle.svga_text.specs.CommandLines.{command_line};
-ghost use Rattle.svga_text.specs.Passing.{Writes};
 
-use svga_decode::{Decoder, Fed};
+use svga_cmd::CommandRef;
+use svga_cmd::constants::MAX_INPUT_WORDS;
+use svga_decode::{SliceWords, Visitor, each_command};
 use svga_io::{Sink, WriteFault};
 use svga_text::Render;
 
-/// Writes the line of each whole command before the end or the bad word.
-pub fn list_commands<K: Sink>(
-    decoder: &mut Decoder,
-    words: &[u32],
-    render: &mut Render,
-    sink: &mut K,
-) -> Result<(), WriteFault>
-    requires fresh { decoder.old ≡ fresh }
-    requires few { length words.now ≤ 33554432 }
-    ensures { Lists K.held K.faults sink.old sink.new words.now result }
-{
-    let mut start = 0;
-    for (i, word) in words.iter().enumerate() {
-        match decoder.feed(*word) {
-            Fed::More => {}
-            Fed::Whole => {
-                list_command(decoder, start, render, sink)?;
-                start = i as u32 + 1;
-            }
-            Fed::Refused { cause: _ } => return Ok(()),
-        }
-    }
-    Ok(())
+/// Writes the line of each command that it is handed to a sink, and stops where that fails.
+#[derive(Drop)]
+pub struct Lister {
+    pub render: Render,
 }
 
-// Writes the line of the command that has just come whole, whose first word has this number.
-fn list_command<K: Sink>(
-    decoder: &Decoder,
-    start: u32,
-    render: &mut Render,
+impl<K: Sink> Visitor<K> for Lister {
+    ghost use Rattle.std.specs.Prelude.{⊤};
+    ghost use Rattle.svga_io.specs.Growing.{Grows, GrowsByPrefix};
+    ghost use Rattle.svga_text.specs.CommandLines.{command_line};
+
+    type Stop = WriteFault;
+
+    ghost can_take = { λ lister sink first. ⊤ };
+
+    ghost takes = { λ lister sink first c now after.
+        Grows K.held K.faults sink after (command_line first c) };
+
+    ghost stops = { λ lister sink first c stop now after.
+        GrowsByPrefix K.held K.faults sink after (command_line first c) };
+
+    fn command(
+        &mut self,
+        sink: &mut K,
+        first: u32,
+        _end: u32,
+        command: &CommandRef<'_>,
+    ) -> Result<(), WriteFault> {
+        self.render.command(sink, first, command)
+    }
+}
+
+/// Writes the line of each whole command before the end or the bad word.
+pub fn list_commands<K: Sink>(
+    words: &[u32],
+    lister: &mut Lister,
     sink: &mut K,
 ) -> Result<(), WriteFault>
-    requires { decoder.now.last ≡ Fed.Whole }
-    ensures { (c : Command) → Spells c decoder.now.words → Writes K.held K.faults sink.old sink.new (command_line start c) result }
+    requires { length words.now ≤ MAX_INPUT_WORDS }
+    ensures { Lists K.held K.faults sink.old sink.new words.now result }
 {
-    let command = decoder.command().unwrap();
-    render.command(sink, start, &command)
+    match each_command(&SliceWords::new(words), &mut [], lister, sink) {
+        Ok(_) => Ok(()),
+        Err(fault) => Err(fault),
+    }
 }

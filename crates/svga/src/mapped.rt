@@ -7,6 +7,7 @@ ghost use Rattle.svga_model.specs.ValidStates.{IsKept};
 
 use std::alloc::{AllocError, Global};
 use svga_cmd::PageKey;
+use svga_cmd::constants::REGION_IDS;
 use svga_machine::Machine;
 use svga_region::Regions;
 
@@ -17,13 +18,13 @@ pub fn mapped_pages(alloc: Global, machine: &Machine) -> Result<Vec<bool>, Alloc
     ensures { IfOk result (λ mapped. AreMapped machine.now.kept mapped.items) }
 {
     let mut mapped = vec![in alloc; false; machine.limits().pages as usize]?;
-    mark_regions(machine.shape().regions(), 4096, &mut mapped);
+    mark_regions(machine.shape().regions(), REGION_IDS as u32, &mut mapped);
     Ok(mapped)
 }
 
 // Marks the pages that stand in the regions with ids below `count`.
 fn mark_regions(regions: &Regions, count: u32, mapped: &mut [bool])
-    requires ids { count ≤ 4096 }
+    requires ids { count ≤ REGION_IDS }
     requires below { (id : ℕ) → AreBelow (length mapped.old) (defined_list regions.now.regions id) }
     ensures { AreMarked (in_first regions.now.regions count) mapped.old mapped.new }
 {
@@ -34,7 +35,7 @@ fn mark_regions(regions: &Regions, count: u32, mapped: &mut [bool])
 
 // Marks the pages that stand in one region.
 fn mark_region(regions: &Regions, id: u32, mapped: &mut [bool])
-    requires id { id < 4096 }
+    requires id { id < REGION_IDS }
     requires below { AreBelow (length mapped.old) (defined_list regions.now.regions id) }
     ensures { AreMarked (has_page (defined_list regions.now.regions id)) mapped.old mapped.new }
 {

@@ -7,7 +7,7 @@ ghost use Rattle.svga.specs.ReplayTexts.{pages_text, region_keys, replay_end_tex
 ghost use Rattle.svga.specs.ReplayTexts.{replay_text, shown_page};
 ghost use Rattle.svga.specs.Telling.{Tells};
 ghost use Rattle.svga.specs.declared.form.Form.TheVariants as form;
-ghost use Rattle.svga_capture.specs.Replayed.{end_of, replay_in, state_left};
+ghost use Rattle.svga_capture.specs.Replayed.{replay_in, state_left};
 ghost use Rattle.svga_cmd.specs.Pages.{HasPage};
 ghost use Rattle.svga_cmd.specs.declared.page.PageKey.TheVariants as key;
 ghost use Rattle.svga_machine.specs.Displays.{IsWholeState};
@@ -15,28 +15,28 @@ ghost use Rattle.svga_text.specs.Passing.{Writes};
 
 use crate::ended::Ended;
 use crate::mapped::mapped_pages;
-use crate::name::{name_of_cause, name_of_fault, name_of_flaw};
 use std::alloc::Global;
 use svga_capture::{Capture, CaptureFault, ReplayEnd, Replayed, read_capture, replay};
+use svga_cmd::constants::MAX_INPUT_BYTES;
 use svga_cmd::{MemPages, PageKey, PageStore};
 use svga_io::{Sink, WriteFault};
-use svga_text::{Line, Render};
+use svga_text::{Line, Render, name_of_capture_cause, name_of_cause, name_of_fault};
 
 /// Writes what the words of the capture in these bytes leave, or where the bytes are no capture.
 /// Where there is no memory for it nothing is written, and the status is 6.
 pub fn write_replay<K: Sink>(alloc: Global, bytes: &[u8], sink: &mut K) -> Ended
-    requires { length bytes.now ≤ 134217728 }
+    requires { length bytes.now ≤ MAX_INPUT_BYTES }
     ensures { TellsInput K.held K.faults sink.old sink.new form.Replay bytes.now result.status }
 {
     let Ok(mut render) = Render::new(alloc) else {
         return Ended { status: 6 };
     };
-    match read_capture(alloc, bytes) {
+    match read_capture(bytes) {
         Ok(capture) => write_capture(alloc, &capture, &mut render, sink),
         Err(CaptureFault::Byte { place, cause }) => {
             let line = Line::CaptureByte {
                 place,
-                cause: name_of_flaw(cause),
+                cause: name_of_capture_cause(cause),
             };
             ended(render.line(sink, &line), 3)
         }
@@ -47,7 +47,7 @@ pub fn write_replay<K: Sink>(alloc: Global, bytes: &[u8], sink: &mut K) -> Ended
 // Replays a capture, and writes the text.
 fn write_capture<K: Sink>(
     alloc: Global,
-    capture: &Capture,
+    capture: &Capture<'_>,
     render: &mut Render,
     sink: &mut K,
 ) -> Ended
@@ -189,7 +189,7 @@ fn write_replay_end<K: Sink>(
     sink: &mut K,
     ending: ReplayEnd,
 ) -> Result<(), WriteFault>
-    ensures { Writes K.held K.faults sink.old sink.new (replay_end_text (end_of ending)) result }
+    ensures { Writes K.held K.faults sink.old sink.new (replay_end_text ending) result }
 {
     let line = match ending {
         ReplayEnd::Whole => Line::End,
@@ -208,15 +208,12 @@ fn write_replay_end<K: Sink>(
 }
 
 fn status_of(ending: ReplayEnd) -> u8
-    ensures { result ≡ replay_status (end_of ending) }
+    ensures { result ≡ replay_status ending }
 {
     match ending {
         ReplayEnd::Whole => 0,
-        ReplayEnd::Refused { word: _, cause: _ } => 3,
-        ReplayEnd::Torn { word: _ } => 3,
-        ReplayEnd::Fault {
-            command: _,
-            fault: _,
-        } => 1,
+        ReplayEnd::Refused { .. } => 3,
+        ReplayEnd::Torn { .. } => 3,
+        ReplayEnd::Fault { .. } => 1,
     }
 }

@@ -5,18 +5,16 @@ ghost use Rattle.svga.specs.Prepared.{IsPrepared};
 ghost use Rattle.svga.specs.Texts.{end_text, words_status, words_text};
 ghost use Rattle.svga.specs.declared.form.Form.TheVariants as form;
 ghost use Rattle.svga_cmd.specs.declared.command.Command.{Command};
-ghost use Rattle.svga_decode.specs.Reading.{fresh};
-ghost use Rattle.svga_decode.specs.Scans.{end_of};
 ghost use Rattle.svga_text.specs.Passing.{Writes};
 
 use crate::bytes::{ending_of, words_of};
 use crate::ended::Ended;
-use crate::listing::list_commands;
-use crate::name::name_of_cause;
+use crate::listing::{Lister, list_commands};
 use std::alloc::{AllocError, Global};
+use svga_cmd::constants::{MAX_INPUT_BYTES, MAX_INPUT_WORDS};
 use svga_decode::{Decoder, Ending, scan};
 use svga_io::{Sink, WriteFault};
-use svga_text::{Line, Render};
+use svga_text::{Line, Render, name_of_cause};
 
 /// All that a report takes, so that nothing is written where memory is short.
 #[derive(Drop)]
@@ -24,14 +22,13 @@ pub struct Report {
     words: Vec<u32>,
     fence: u32,
     ending: Ending,
-    decoder: Decoder,
-    render: Render,
+    lister: Lister,
 }
 
 /// Writes the report on these bytes. Where there is no memory for it nothing is written, and the
 /// status is 6.
 pub fn write_report<K: Sink>(alloc: Global, bytes: &[u8], sink: &mut K) -> Ended
-    requires { length bytes.now ≤ 134217728 }
+    requires { length bytes.now ≤ MAX_INPUT_BYTES }
     ensures { TellsInput K.held K.faults sink.old sink.new form.Words bytes.now result.status }
 {
     let Ok(mut report) = prepare(alloc, bytes) else {
@@ -46,40 +43,37 @@ pub fn write_report<K: Sink>(alloc: Global, bytes: &[u8], sink: &mut K) -> Ended
 
 // Reads the words through, and takes what their listing needs.
 fn prepare(alloc: Global, bytes: &[u8]) -> Result<Report, AllocError>
-    requires { length bytes.now ≤ 134217728 }
+    requires { length bytes.now ≤ MAX_INPUT_BYTES }
     ensures { IfOk result (λ report. (cs : List Command) × IsPrepared bytes.now cs report) }
 {
     let words = words_of(alloc, bytes)?;
-    let mut scanner = Decoder::new(alloc)?;
-    let scanned = scan(&mut scanner, &words);
+    let mut decoder = Decoder::new(alloc)?;
+    let scanned = scan(&mut decoder, &words);
+    let render = Render::new(alloc)?;
     Ok(Report {
         words,
         fence: scanned.fence,
         ending: ending_of(bytes, scanned.ending),
-        decoder: Decoder::new(alloc)?,
-        render: Render::new(alloc)?,
+        lister: Lister { render },
     })
 }
 
 fn write<K: Sink>(report: &mut Report, sink: &mut K) -> Result<(), WriteFault>
-    requires fresh { report.old.decoder ≡ fresh }
-    requires few { length report.old.words.items ≤ 33554432 }
+    requires { length report.old.words.items ≤ MAX_INPUT_WORDS }
     ensures { (bytes : List ℕ) (cs : List Command) → IsPrepared bytes cs report.old
-        → Writes K.held K.faults sink.old sink.new (words_text cs (end_of report.old.ending)) result }
+        → Writes K.held K.faults sink.old sink.new (words_text cs report.old.ending) result }
 {
-    list_commands(&mut report.decoder, &report.words, &mut report.render, sink)?;
-    report.render.line(
-        sink,
-        &Line::Fence {
-            value: report.fence,
-        },
-    )?;
-    write_end(&mut report.render, sink, report.ending)
+    list_commands(&report.words, &mut report.lister, sink)?;
+    let line = Line::Fence {
+        value: report.fence,
+    };
+    report.lister.render.line(sink, &line)?;
+    write_end(&mut report.lister.render, sink, report.ending)
 }
 
 // Says how the input ends, where it isn't whole.
 fn write_end<K: Sink>(render: &mut Render, sink: &mut K, ending: Ending) -> Result<(), WriteFault>
-    ensures { Writes K.held K.faults sink.old sink.new (end_text (end_of ending)) result }
+    ensures { Writes K.held K.faults sink.old sink.new (end_text ending) result }
 {
     match ending {
         Ending::Whole => Ok(()),
@@ -95,11 +89,11 @@ fn write_end<K: Sink>(render: &mut Render, sink: &mut K, ending: Ending) -> Resu
 }
 
 fn status_of(ending: Ending) -> u8
-    ensures { result ≡ words_status (end_of ending) }
+    ensures { result ≡ words_status ending }
 {
     match ending {
         Ending::Whole => 0,
-        Ending::Refused { word: _, cause: _ } => 3,
-        Ending::Torn { word: _ } => 3,
+        Ending::Refused { .. } => 3,
+        Ending::Torn { .. } => 3,
     }
 }

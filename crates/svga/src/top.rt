@@ -1,7 +1,6 @@
 //! The top call: all that the program does, over any source and any sink.
-ghost use Rattle.std.specs.Prelude.{◌≡◌, ◌≤◌, length};
-ghost use Rattle.svga.specs.Due.{IsComplete, IsRun, source_tells};
-ghost use Rattle.svga.specs.Forms.{IsAsked};
+ghost use Rattle.std.specs.Prelude.{◌≤◌, length};
+ghost use Rattle.svga.specs.Due.{IsDone};
 ghost use Rattle.svga.specs.Inputs.{TellsInput};
 ghost use Rattle.svga.specs.Telling.{Tells};
 
@@ -10,10 +9,8 @@ use crate::form::{Form, form_of};
 use crate::replay::write_replay;
 use crate::report::write_report;
 use std::alloc::Global;
+use svga_cmd::constants::MAX_INPUT_BYTES;
 use svga_io::{InFault, Sink, Source, read_all, write_all};
-
-/// The longest input, in bytes.
-const LIMIT: usize = 134217728;
 
 /// Runs the program with these words on this source and this sink, and answers the status with which
 /// it ends.
@@ -23,16 +20,7 @@ pub fn top<S: Source, K: Sink>(
     source: &mut S,
     sink: &mut K,
 ) -> Ended
-    // What is due, by the words and by what was read, is told.
-    ensures run { IsRun words.now (source_tells S.left S.faults source.old source.new)
-        K.held K.faults sink.old sink.new result.status }
-
-    // Nothing is read where the words are no form.
-    ensures unread { (IsAsked words.now → ⊥) → source.new ≡ source.old }
-
-    // An input within the limit that is whole is told whole, unless the source or the sink fails or
-    // memory is short.
-    ensures complete { IsComplete words.now (source_tells S.left S.faults source.old source.new)
+    ensures { IsDone words.now S.left S.faults source.old source.new
         K.held K.faults sink.old sink.new result.status }
 {
     top_plain(alloc, words, source, sink)
@@ -45,22 +33,13 @@ pub fn top_plain<S: Source, K: Sink>(
     source: &mut S,
     sink: &mut K,
 ) -> Ended
-    // What is due, by the words and by what was read, is told.
-    ensures run { IsRun words.now (source_tells S.left S.faults source.old source.new)
-        K.held K.faults sink.old sink.new result.status }
-
-    // Nothing is read where the words are no form.
-    ensures unread { (IsAsked words.now → ⊥) → source.new ≡ source.old }
-
-    // An input within the limit that is whole is told whole, unless the source or the sink fails or
-    // memory is short.
-    ensures complete { IsComplete words.now (source_tells S.left S.faults source.old source.new)
+    ensures { IsDone words.now S.left S.faults source.old source.new
         K.held K.faults sink.old sink.new result.status }
 {
     let Some(form) = form_of(words) else {
         return tell(sink, "usage: svga words | replay | race | gen N\n", 2);
     };
-    match read_all(alloc, source, LIMIT) {
+    match read_all(alloc, source, MAX_INPUT_BYTES) {
         Ok(bytes) => write_input(alloc, form, &bytes, sink),
         Err(InFault::ReadFault) => tell(sink, "read fault\n", 4),
         Err(InFault::TooLong) => tell(sink, "too long\n", 7),
@@ -70,7 +49,7 @@ pub fn top_plain<S: Source, K: Sink>(
 
 // Writes what this form says of these bytes.
 fn write_input<K: Sink>(alloc: Global, form: Form, bytes: &[u8], sink: &mut K) -> Ended
-    requires { length bytes.now ≤ 134217728 }
+    requires { length bytes.now ≤ MAX_INPUT_BYTES }
     ensures { TellsInput K.held K.faults sink.old sink.new form bytes.now result.status }
 {
     match form {

@@ -1,16 +1,12 @@
 pub mod CaptureAnswers
-pub mod CaptureFacts
 pub mod CaptureJudged
-pub mod CaptureRing
 pub mod CaptureWords
-pub mod OpeningGood
+pub mod FieldLaws
 pub mod OpeningPages
 pub mod OpeningPlaces
 pub mod OpeningRegions
 pub mod OpeningWhole
 pub mod PageLaws
-pub mod PageLimits
 pub mod RegionLaws
 pub mod ReplayEnds
 pub mod RunEnds
-pub mod RunningLaws

@@ -8,18 +8,21 @@ use Rattle.svga_cmd.proofs.KeyLaws.{keys_exact, keys_total}
 use Rattle.svga_cmd.proofs.Maps.{by_key, get_other, get_same, same_keys}
 use Rattle.svga_cmd.proofs.MemoryLaws.{one_zero_memory}
 use Rattle.svga_cmd.specs.Limits.{frame_page_count}
-use Rattle.svga_cmd.specs.Pages.{HasPage, IsKey, IsZeroMemoryOf, Memory, key_cmp, page_at}
+use Rattle.svga_cmd.specs.Pages.{HasPage, IsKey, IsZeroMemoryOf, Memory, is_key, key_cmp, page_at}
+use Rattle.svga_cmd.specs.declared.constants.TheConstants.{PAGE_SIZE}
 use Rattle.svga_cmd.specs.declared.limits.Limits.{Limits}
 use Rattle.svga_cmd.specs.declared.page.PageKey.{PageKey}
 use Rattle.svga_cmd.specs.declared.page.PageKey.TheVariants.{Frame, Guest}
 use Rattle.svga_model.proofs.PutLaws.{with_page-has}
 use Rattle.svga_model.proofs.ValidMemory.{opening_has, opening_pages}
-use Rattle.svga_model.specs.CaptureFields.{first_flaw, is_key, key_before, key_of_word, limits_in, ordered_field, page_count, page_fields, page_record_at, pages_at}
+use Rattle.svga_model.specs.CaptureFields.{first_flaw, key_before, key_of_word, limits_in, ordered_field, page_count, page_fields, page_record_at}
 use Rattle.svga_model.specs.Captures.{listed_bytes, listed_key, listed_memory}
 use Rattle.svga_model.specs.Memories.{with_page}
 use Rattle.svga_model.specs.States.{all_keys, opening_memory}
 use Rattle.svga_model.specs.Walks.{little_word}
-use Rattle.svga_capture.proofs.OpeningGood.{field_good, first_good, flat_good, ordered_good}
+use Rattle.svga_capture.proofs.FieldLaws.{field_good, first_good, flat_good, ordered_good, parts_good}
+use Rattle.svga_capture.specs.Fields.{AreFields}
+use Rattle.svga_capture.specs.declared.fields.Fields.{Fields}
 
 -- a page of the device, by the test
 key_is : (l : Limits) (key : PageKey) → is_key l key ≡ true → IsKey l key
@@ -39,10 +42,10 @@ page_record bytes j good l =
     let at = page_record_at bytes j in
     let rule : ℕ → Bool = λ w. is_key (limits_in bytes) (key_of_word w) in
     let both = flat_good bytes (λ j. ordered_field bytes (page_record_at bytes j) (key_before bytes j) (λ w. is_key (limits_in bytes) (key_of_word w))
-    ∷ record { at = page_record_at bytes j + 4; size = 4096; breaks = None } ∷ []) 0 (page_count bytes) j good (omega arith) (omega (arith, l)) in
-    let first = first_good bytes (ordered_field bytes at (key_before bytes j) rule) (record { at = at + 4; size = 4096; breaks = None } ∷ []) both in
-    let second = first_good bytes (record { at = at + 4; size = 4096; breaks = None }) [] first.1 in
-    let end = (field_good bytes (record { at = at + 4; size = 4096; breaks = None }) second.0).0 in
+    ∷ record { at = page_record_at bytes j + 4; size = PAGE_SIZE; breaks = None } ∷ []) 0 (page_count bytes) j good (omega arith) (omega (arith, l)) in
+    let first = first_good bytes (ordered_field bytes at (key_before bytes j) rule) (record { at = at + 4; size = PAGE_SIZE; breaks = None } ∷ []) both in
+    let second = first_good bytes (record { at = at + 4; size = PAGE_SIZE; breaks = None }) [] first.1 in
+    let end = (field_good bytes (record { at = at + 4; size = PAGE_SIZE; breaks = None }) second.0).0 in
     record {
       there = omega (arith, end);
       key = key_is (limits_in bytes) (listed_key bytes j) (ordered_good bytes at (key_before bytes j) rule first.0).1.0;
@@ -63,7 +66,7 @@ opening_zero : (l : Limits) → IsZeroMemoryOf l (opening_memory l)
 unfolding opening_memory
 opening_zero l = record {
   keys = λ key. ((opening_pages l).keys key, opening_has l key);
-  zeros = λ key. all_same (replicate 4096 0) (all_keys l) key;
+  zeros = λ key. all_same (replicate PAGE_SIZE 0) (all_keys l) key;
 }
 
 -- one more page of those with records
@@ -102,17 +105,21 @@ pub none_unfilled : (bytes : List ℕ) (j end : ℕ) (m : Memory) → end ≤ j 
 none_unfilled bytes j end m l left =
     ap (λ n. fold (filled bytes) m (range_with_len j n)) (let e : 0 ≡ end - j = omega (arith, l) in e) ∙ left.filled_is
 
--- the record of a loop's turn
-pub page_here : (bytes : List ℕ) (at j end : ℕ) → first_flaw bytes (page_fields bytes) ≡ None → at ≡ pages_at bytes
-    → end ≡ page_count bytes → j < end → IsPageRecord bytes (at + 4100 * j)
-page_here bytes at j end good begin e l =
-    subst (λ at. IsPageRecord bytes (at + 4100 * j)) (sym begin) (page_record bytes j good (omega (arith, e, l)))
+-- record j, as the fields say where it stands
+module _ (bytes : List ℕ) (f : Fields) (are : AreFields bytes f) (j : ℕ) where
+  here : f.pages.at + 4100 * j ≡ page_record_at bytes j
+  here = ap (λ (f : Fields). f.pages.at + 4100 * j) are.said
 
--- one less, at the record of a loop's turn
-pub filled_here : (bytes : List ℕ) (at j end : ℕ) (m news : Memory) → at ≡ pages_at bytes → j < end → AreUnfilled bytes j (end - j) m
-    → HasPage m (key_of_word (little_word bytes (at + 4100 * j)))
-    → news ≡ with_page m (key_of_word (little_word bytes (at + 4100 * j))) (slice_range bytes (at + 4100 * j + 4) (at + 4100 * j + 4100))
-    → AreUnfilled bytes (j + 1) (end - (j + 1)) news
-filled_here bytes at j end m news begin l left has is =
-    one_filled bytes j end m news l left (subst (λ at. HasPage m (key_of_word (little_word bytes (at + 4100 * j)))) begin has)
-    (is ∙ ap (λ at. with_page m (key_of_word (little_word bytes (at + 4100 * j))) (slice_range bytes (at + 4100 * j + 4) (at + 4100 * j + 4100))) begin)
+  pub page_here : j < f.pages.count → IsPageRecord bytes (f.pages.at + 4100 * j)
+  page_here l =
+      let within : j < page_count bytes = subst (λ (f : Fields). j < f.pages.count) are.said l in
+      subst (IsPageRecord bytes) (sym here) (page_record bytes j (parts_good bytes are.good).pages within)
+
+  pub filled_here : (at : ℕ) (m news : Memory) → at ≡ f.pages.at + 4100 * j → j < f.pages.count
+      → AreUnfilled bytes j (f.pages.count - j) m → HasPage m (key_of_word (little_word bytes at))
+      → news ≡ with_page m (key_of_word (little_word bytes at)) (slice_range bytes (at + 4) (at + 4100))
+      → AreUnfilled bytes (j + 1) (f.pages.count - (j + 1)) news
+  filled_here at m news from l left has is =
+      let e : at ≡ page_record_at bytes j = from ∙ here in
+      one_filled bytes j f.pages.count m news l left (subst (λ at. HasPage m (key_of_word (little_word bytes at))) e has)
+      (is ∙ ap (λ at. with_page m (key_of_word (little_word bytes at)) (slice_range bytes (at + 4) (at + 4100))) e)

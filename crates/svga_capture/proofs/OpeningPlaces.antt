@@ -1,28 +1,25 @@
 -- A region that is opened place by place.
-use Rattle.std.proofs.Common.{◌≡◌, ◌≢◌, ℕ, zero, suc, ◌+◌, ◌*◌, ◌<◌, ◌≤◌, refl, sym, ap, ◌∙◌, inl, inr, List, [], ◌∷◌, ◌++◌, length, map as map_list, Bool, true, false, cond, ◌&&◌, ◌||◌, nat_lt, nat_le, ◌==◌, Option, Some, None, is_none, is_some, unwrap_or, replicate, take, drop, append_assoc, arith}
+use Rattle.std.proofs.Common.{◌≡◌, ◌≢◌, ℕ, zero, suc, ◌+◌, ◌*◌, ◌<◌, ◌≤◌, refl, sym, ap, ◌∙◌, inl, inr, List, [], ◌∷◌, ◌++◌, length, map as map_list, Bool, true, false, cond, ◌&&◌, nat_lt, nat_le, ◌==◌, Option, Some, None, unwrap_or, replicate, take, drop, append_assoc, arith}
 use Rattle.std.proofs.lemmas.Bool.{cases_lt}
 use Rattle.std.proofs.lemmas.Bool.Decides.{nat_tests}
 use Rattle.std.proofs.lemmas.List.FromFn.{length-map-range_with_len}
 use Rattle.std.specs.Cmp.{nat_cmp_total}
 use Rattle.std.specs.FinMap as map
 use Rattle.std.specs.FinMap.{nat_cmp-IsAntisymmetric}
-use Rattle.std.specs.List.{list_any, range_with_len}
+use Rattle.std.specs.List.{range_with_len}
 use Rattle.svga_cmd.proofs.Maps.{get_same, insert_twice}
-use Rattle.svga_cmd.specs.declared.command.Command.TheVariants.{DefineGmr2, Fence, RemapGmr2}
+use Rattle.svga_cmd.specs.declared.constants.TheConstants.{UNMAPPED_WORD}
 use Rattle.svga_cmd.specs.declared.fault.Fault.TheVariants as fault
 use Rattle.svga_cmd.specs.declared.page.PageKey.{PageKey}
 use Rattle.svga_cmd.specs.declared.page.PageKey.TheVariants.{Guest}
-use Rattle.svga_cmd.specs.declared.remap.RemapData.TheVariants.{SinglePpn32}
 use Rattle.svga_model.proofs.ValidRegions.{defined_small}
 use Rattle.svga_model.proofs.ValidRules.{not_over}
-use Rattle.svga_model.specs.Acts.{Do}
-use Rattle.svga_model.specs.CaptureFields.{RegionRecord, record_at, unmapped_word}
+use Rattle.svga_model.specs.CaptureFields.{RegionRecord, record_at}
 use Rattle.svga_model.specs.Captures.{listed_places, place_of_word}
-use Rattle.svga_model.specs.Faults.{fault_of}
-use Rattle.svga_model.specs.Regions.{Places, Regions, defined_places, place_count, places_with, region_length, remapped, with_region, with_remap}
-use Rattle.svga_model.specs.Standing.{least_standing}
-use Rattle.svga_model.specs.States.{State, with_regions}
+use Rattle.svga_model.specs.Regions.{Places, Regions, define_tests, defined_places, place_count, places_with, region_length, remapped, with_region, with_remap}
+use Rattle.svga_model.specs.Standing.{first_standing}
 use Rattle.svga_model.specs.Walks.{little_word}
+use Rattle.svga_region.specs.RegionSet.{RegionSet}
 use Rattle.svga_capture.specs.Openings.{IsNextRecord, IsPlaceWord, with_place}
 
 both_no : (a b : Bool) → b ≡ false → (a && b) ≡ false
@@ -30,37 +27,16 @@ both_no true b e = e
 both_no false b e = refl
 
 -- no rule refuses a region for which there is room
-pub define_free : (s : State) (id pages : ℕ) → id ≤ 4095 → place_count s.kept.regions + pages ≤ 65536
-    → fault_of s (Do (DefineGmr2 id pages)) ≡ None
-unfolding fault_of
-define_free s id pages small room =
-    let within : places_with s.kept.regions id pages ≤ 65536 = omega (arith, room) in
+define_free : (regions : Regions) (id pages : ℕ) → id ≤ 4095 → place_count regions + pages ≤ 65536
+    → first_standing (define_tests regions id pages) ≡ None
+define_free regions id pages small room =
+    let within : places_with regions id pages ≤ 65536 = omega (arith, room) in
     let low = not_over id 4095 small in
-    let few = both_no (nat_le id 4095) _ (not_over (places_with s.kept.regions id pages) 65536 within) in
-    λ i. least_standing ((low i, fault.RegionId) ∷ (few i, fault.PlaceLimit) ∷ [])
-
--- a region that has a place is there
-there : (o : Option Places) (k : ℕ) → k < length (unwrap_or o []) → is_none o ≡ false
-there None k l = absurd (omega (arith, l))
-there (Some places) k l = refl
-
--- no rule refuses to map a place that there is to a guest page
-pub remap_free : (s : State) (id place number : ℕ) → id ≤ 4095 → place < region_length s.kept.regions id → number < s.kept.limits.pages
-    → fault_of s (Do (RemapGmr2 id place 1 (SinglePpn32 number))) ≡ None
-unfolding fault_of
-remap_free s id place number small within guest =
-    let is = defined_places s.kept.regions id in
-    let defined = both_no (nat_le id 4095) _ (there is place within) in
-    let low = not_over id 4095 small in
-    let fits = both_no (is_some is) _ (not_over (place + 1) (region_length s.kept.regions id) (omega (arith, within))) in
-    let good = under number s.kept.limits.pages guest in
-    λ i. least_standing ((defined i, fault.NoRegion) ∷ (low i, fault.RegionId) ∷ (fits i, fault.RangeBeyond) ∷ (good i, fault.BadPage) ∷ [])
-  where
-    under : (n limit : ℕ) → n < limit → list_any (λ m. nat_le limit m) (n ∷ []) ≡ false
-    under n limit l = (let e : nat_le limit n ≡ false = grind (arith, nat_tests) in ap (λ t. t || false) e)
+    let few = both_no (nat_le id 4095) _ (not_over (places_with regions id pages) 65536 within) in
+    λ i. first_standing ((low i, fault.RegionId) ∷ (few i, fault.PlaceLimit) ∷ [])
 
 -- a word of a place that isn't unmapped
-pub mapped : (guest w : ℕ) → IsPlaceWord guest w → (w == unmapped_word) ≡ false → w < guest
+pub mapped : (guest w : ℕ) → IsPlaceWord guest w → (w == UNMAPPED_WORD) ≡ false → w < guest
 mapped guest w is not = grind (arith, nat_tests)
 
 -- lists that a function makes
@@ -122,7 +98,7 @@ all_listed bytes r =
 pub one_place : (bytes : List ℕ) (r : RegionRecord) (regions : Regions) (k : ℕ) → r.id ≤ 4095 → k < r.count
     → with_place (map.insert regions r.id (so_far bytes r k)) r.id k (little_word bytes (r.at + 8 + 4 * k))
     ≡ map.insert regions r.id (so_far bytes r (k + 1))
-one_place bytes r regions k small l = go (w == unmapped_word) refl where
+one_place bytes r regions k small l = go (w == UNMAPPED_WORD) refl where
   w : ℕ
   w = little_word bytes (r.at + 8 + 4 * k)
 
@@ -132,13 +108,13 @@ one_place bytes r regions k small l = go (w == unmapped_word) refl where
   now : Regions
   now = map.insert regions r.id (so_far bytes r k)
 
-  place_is : (t : Bool) → (w == unmapped_word) ≡ t → f k ≡ cond t None (Some (Guest w))
+  place_is : (t : Bool) → (w == UNMAPPED_WORD) ≡ t → f k ≡ cond t None (Some (Guest w))
   place_is t e = ap (λ t. cond t None (Some (Guest w))) e
 
   last : f k ≡ cell f (k + 1) k
   last = sym (below f (k + 1) k (omega arith))
 
-  kept : (w == unmapped_word) ≡ true → so_far bytes r k ≡ so_far bytes r (k + 1)
+  kept : (w == UNMAPPED_WORD) ≡ true → so_far bytes r k ≡ so_far bytes r (k + 1)
   kept e = made_same (cell f k) (cell f (k + 1)) 0 r.count (λ j low. elim (cases_lt j k) as (λ _. cell f k j ≡ cell f (k + 1) j) [
     | inl less ↦ elsewhere f k j (λ e. absurd (omega (arith, less, e)))
     | inr more ↦ elim (cases_lt k j) as (λ _. cell f k j ≡ cell f (k + 1) j) [
@@ -151,14 +127,14 @@ one_place bytes r regions k small l = go (w == unmapped_word) refl where
   list_is : unwrap_or (defined_places now r.id) [] ≡ so_far bytes r k
   list_is = ap (λ o. unwrap_or o []) (defined_small now r.id small ∙ get_same nat_cmp_total nat_cmp-IsAntisymmetric regions r.id (so_far bytes r k))
 
-  put : (w == unmapped_word) ≡ false → remapped (so_far bytes r k) k (Some (Guest w) ∷ []) ≡ so_far bytes r (k + 1)
+  put : (w == UNMAPPED_WORD) ≡ false → remapped (so_far bytes r k) k (Some (Guest w) ∷ []) ≡ so_far bytes r (k + 1)
   put e = append_assoc (take k (so_far bytes r k)) (Some (Guest w) ∷ []) (drop (k + 1) (so_far bytes r k))
       ∙ ap (λ n. take k (so_far bytes r k) ++ (Some (Guest w) ∷ drop n (so_far bytes r k))) (let z : k + 1 ≡ suc k = omega arith in z)
       ∙ made_put (cell f k) (cell f (k + 1)) (Some (Guest w)) 0 r.count k l
       (λ j ne. elsewhere f k j (λ is. ne (let z : j ≡ 0 + k = omega (arith, is) in z)))
       (sym (place_is false e) ∙ last ∙ ap (cell f (k + 1)) (let z : k ≡ 0 + k = omega arith in z))
 
-  go : (t : Bool) → (w == unmapped_word) ≡ t → cond t now (with_remap now r.id k (w ∷ [])) ≡ map.insert regions r.id (so_far bytes r (k + 1))
+  go : (t : Bool) → (w == UNMAPPED_WORD) ≡ t → cond t now (with_remap now r.id k (w ∷ [])) ≡ map.insert regions r.id (so_far bytes r (k + 1))
   go true e = ap (map.insert regions r.id) (kept e)
   go false e = ap (λ xs. map.insert now r.id (remapped xs k (Some (Guest w) ∷ []))) list_is
       ∙ ap (map.insert now r.id) (put e)
@@ -169,24 +145,25 @@ pub with_some : (regions : Regions) (id pages : ℕ) → 1 ≤ pages → with_re
 with_some regions id pages some = (let e : (pages == 0) ≡ false = grind (arith, nat_tests) in ap (λ t. cond t (map.remove regions id) (map.insert regions id (replicate pages None))) e)
 
 -- no rule refuses the next region
-pub define_next : (s : State) (bytes : List ℕ) (at id count : ℕ) → id ≡ (record_at bytes at).id → count ≡ (record_at bytes at).count
-    → IsNextRecord bytes at s.kept → fault_of s (Do (DefineGmr2 id count)) ≡ None
-define_next s bytes at id count e f next =
+pub define_next : (bytes : List ℕ) (at id count guest : ℕ) (regions : Regions) → id ≡ (record_at bytes at).id
+    → count ≡ (record_at bytes at).count → IsNextRecord bytes at guest regions
+    → first_standing (define_tests regions id count) ≡ None
+define_next bytes at id count guest regions e f next =
     let small = next.small in
     let room = next.room in
-    define_free s id count (omega (arith, e, small)) (omega (arith, f, room))
+    define_free regions id count (omega (arith, e, small)) (omega (arith, f, room))
 
 -- what it is at first
-pub begun : (s : State) (bytes : List ℕ) (r : RegionRecord) (id count : ℕ) → id ≡ r.id → count ≡ r.count → 1 ≤ r.count
-    → with_regions s (with_region s.kept.regions id count) ≡ with_regions s (map.insert s.kept.regions r.id (so_far bytes r 0))
-begun s bytes r id count e f some = ap (with_regions s)
-    ((λ i. with_region s.kept.regions (e i) (f i)) ∙ with_some s.kept.regions r.id r.count some
-    ∙ ap (map.insert s.kept.regions r.id) (none_yet bytes r))
+pub begun : (bytes : List ℕ) (regions : Regions) (r : RegionRecord) (id count : ℕ) → id ≡ r.id → count ≡ r.count → 1 ≤ r.count
+    → with_region regions id count ≡ map.insert regions r.id (so_far bytes r 0)
+begun bytes regions r id count e f some =
+    (λ i. with_region regions (e i) (f i)) ∙ with_some regions r.id r.count some
+    ∙ ap (map.insert regions r.id) (none_yet bytes r)
 
 -- it has each place
-pub has_place : (m regions : Regions) (bytes : List ℕ) (r : RegionRecord) (k j id : ℕ) → m ≡ map.insert regions r.id (so_far bytes r k)
-    → id ≡ r.id → r.id ≤ 4095 → j < r.count → j < region_length m id
-has_place m regions bytes r k j id e g small l =
+pub has_place : (m regions : Regions) (bytes : List ℕ) (r : RegionRecord) (k id : ℕ) → m ≡ map.insert regions r.id (so_far bytes r k)
+    → id ≡ r.id → r.id ≤ 4095 → k < r.count → k < region_length m id
+has_place m regions bytes r k id e g small l =
     let f : ℕ → Option PageKey = λ j. place_of_word (little_word bytes (r.at + 8 + 4 * j)) in
     let news = map.insert regions r.id (so_far bytes r k) in
     let many : length (so_far bytes r k) ≡ r.count = length-map-range_with_len (cell f k) 0 r.count in
@@ -195,25 +172,20 @@ has_place m regions bytes r k j id e g small l =
     (defined_small news r.id small ∙ get_same nat_cmp_total nat_cmp-IsAntisymmetric regions r.id (so_far bytes r k)) in
     omega (arith, l, many, same, now)
 
--- the state after one more place
-pub place_more : (s t u : State) (bytes : List ℕ) (r : RegionRecord) (k id w : ℕ)
-    → t ≡ with_regions s (map.insert s.kept.regions r.id (so_far bytes r k))
-    → u ≡ with_regions t (with_place t.kept.regions id k w)
+-- the regions after one more place
+pub place_more : (s t u : RegionSet) (bytes : List ℕ) (r : RegionRecord) (k id w : ℕ)
+    → t ≡ record s { regions = map.insert s.regions r.id (so_far bytes r k) }
+    → u ≡ record t { regions = with_place t.regions id k w }
     → id ≡ r.id → w ≡ little_word bytes (r.at + 8 + 4 * k) → r.id ≤ 4095 → k < r.count
-    → u ≡ with_regions s (map.insert s.kept.regions r.id (so_far bytes r (k + 1)))
+    → u ≡ record s { regions = map.insert s.regions r.id (so_far bytes r (k + 1)) }
 place_more s t u bytes r k id w was is e f small l =
-    is ∙ (λ i. with_regions (was i) (with_place (was i).kept.regions (e i) k (f i)))
-    ∙ ap (with_regions s) (one_place bytes r s.kept.regions k small l)
+    is ∙ (λ i. record (was i) { regions = with_place (was i).regions (e i) k (f i) })
+    ∙ ap (λ m. record s { regions = m }) (one_place bytes r s.regions k small l)
 
--- the state after all
-pub place_last : (s t : State) (bytes : List ℕ) (r : RegionRecord) (k : ℕ)
-    → t ≡ with_regions s (map.insert s.kept.regions r.id (so_far bytes r k)) → k ≡ r.count
-    → t ≡ with_regions s (map.insert s.kept.regions r.id (listed_places bytes r))
+-- and after all
+pub place_last : (s t : RegionSet) (bytes : List ℕ) (r : RegionRecord) (k : ℕ)
+    → t ≡ record s { regions = map.insert s.regions r.id (so_far bytes r k) } → k ≡ r.count
+    → t ≡ record s { regions = map.insert s.regions r.id (listed_places bytes r) }
 place_last s t bytes r k is e =
-    is ∙ ap (λ k. with_regions s (map.insert s.kept.regions r.id (so_far bytes r k))) e
-    ∙ ap (λ list. with_regions s (map.insert s.kept.regions r.id list)) (all_listed bytes r)
-
--- no rule refuses a fence
-pub fence_free : (s : State) (value : ℕ) → fault_of s (Do (Fence value)) ≡ None
-unfolding fault_of
-fence_free s value = refl
+    is ∙ ap (λ k. record s { regions = map.insert s.regions r.id (so_far bytes r k) }) e
+    ∙ ap (λ list. record s { regions = map.insert s.regions r.id list }) (all_listed bytes r)

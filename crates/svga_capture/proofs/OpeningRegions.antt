@@ -1,22 +1,24 @@
 -- Regions that are opened one after another, as their records stand.
-use Rattle.std.proofs.Common.{◌≡◌, ◌≢◌, ℕ, zero, suc, ◌+◌, ◌*◌, ◌-◌, ◌<◌, ◌≤◌, refl, sym, ap, subst, ◌∙◌, List, [], ◌∷◌, ◌++◌, length, map as map_list, true, ◌&&◌, ◌||◌, nat_lt, nat_le, ◌==◌, Option, Some, None, unwrap_or, sum_by, arith}
+use Rattle.std.proofs.Common.{◌≡◌, ◌≢◌, ℕ, zero, suc, ◌+◌, ◌*◌, ◌-◌, ◌<◌, ◌≤◌, refl, sym, ap, subst, ◌∙◌, List, [], ◌∷◌, ◌++◌, length, map as map_list, true, ◌&&◌, ◌||◌, nat_lt, nat_le, ◌==◌, Option, Some, None, unwrap_or, arith}
 use Rattle.std.proofs.lemmas.Bool.Decides.{nat_tests}
 use Rattle.std.proofs.lemmas.List.FromFn.{length-map-range_with_len}
-use Rattle.std.proofs.lemmas.List.Sums.{sum_by-cons}
 use Rattle.std.specs.Cmp.{nat_cmp_total}
 use Rattle.std.specs.FinMap as map
 use Rattle.std.specs.FinMap.{nat_cmp-IsAntisymmetric, get-empty}
 use Rattle.std.specs.List.{range_with_len}
 use Rattle.std.specs.Ordering.{nat_cmp}
 use Rattle.svga_cmd.proofs.Maps.{get_other, get_same, insert_comm}
+use Rattle.svga_cmd.specs.declared.constants.TheConstants.{MAX_PLACES, MAX_REGION_ID, UNMAPPED_WORD}
 use Rattle.svga_model.proofs.ValidRegions.{defined_small, place_count-changed, place_count-empty}
 use Rattle.svga_model.proofs.ValidRules.{both_true}
-use Rattle.svga_model.specs.CaptureFields.{RegionRecord, first_flaw, is_above, limits_in, pages_at, place_field, record_at, record_size, records_from, region_count, region_fields, ring_end, unmapped_word, word_field}
+use Rattle.svga_model.specs.CaptureFields.{RegionRecord, first_flaw, is_above, limits_in, place_field, record_at, record_size, records_from, region_count, region_fields, ring_end, word_field}
 use Rattle.svga_model.specs.Captures.{listed_places, listed_regions, place_of_word}
 use Rattle.svga_model.specs.Regions.{Places, Regions, place_count, region_length}
-use Rattle.svga_model.specs.States.{Kept, State, with_regions}
 use Rattle.svga_model.specs.Walks.{little_word}
-use Rattle.svga_capture.proofs.OpeningGood.{first_good, lists_good, made_good, ordered_good, reached, word_good}
+use Rattle.svga_capture.proofs.FieldLaws.{first_good, lists_good, made_good, ordered_good, parts_good, reached, word_good}
+use Rattle.svga_capture.specs.Fields.{AreFields}
+use Rattle.svga_capture.specs.declared.fields.Fields.{Fields}
+use Rattle.svga_region.specs.RegionSet.{RegionSet}
 use Rattle.svga_capture.specs.Openings.{IsNextRecord, IsPlaceWord}
 
 -- the entries of so many records from a byte on
@@ -51,20 +53,20 @@ pub first_record : (bytes : List ℕ) (n at total : ℕ) (last : Option ℕ) →
 first_record bytes n at total last good =
     let r : RegionRecord = record_at bytes at in
     let later = region_fields bytes (total + r.count) (Some r.id) (records_from bytes n (behind bytes at)) in
-    let number = word_field bytes (at + 4) (λ n. nat_le 1 n && nat_le (total + n) 65536) in
+    let number = word_field bytes (at + 4) (λ n. nat_le 1 n && nat_le (total + n) MAX_PLACES) in
     let first = first_good bytes _ (number ∷ map_list (place_field bytes (r.at + 8)) (range_with_len 0 r.count) ++ later) good in
     let second = first_good bytes number (map_list (place_field bytes (r.at + 8)) (range_with_len 0 r.count) ++ later) first.1 in
     let parts = lists_good bytes (map_list (place_field bytes (r.at + 8)) (range_with_len 0 r.count)) later second.1 in
-    let id = ordered_good bytes at last (λ n. nat_le n 4095) first.0 in
+    let id = ordered_good bytes at last (λ n. nat_le n MAX_REGION_ID) first.0 in
     let count = both_true (nat_le 1 r.count) (nat_le (total + r.count) 65536)
-    (word_good bytes (at + 4) (λ n. nat_le 1 n && nat_le (total + n) 65536) second.0).1 in
+    (word_good bytes (at + 4) (λ n. nat_le 1 n && nat_le (total + n) MAX_PLACES) second.0).1 in
     record {
       small = reached r.id 4095 id.1.0;
       above = id.1.1;
       some = reached 1 r.count count.0;
       room = reached (total + r.count) 65536 count.1;
-      places = λ k l. word_good bytes (at + 8 + 4 * k) (λ n. nat_lt n (limits_in bytes).pages || n == unmapped_word)
-          (made_good bytes (λ k. word_field bytes (at + 8 + 4 * k) (λ n. nat_lt n (limits_in bytes).pages || n == unmapped_word)) 0 r.count k parts.0 (omega arith) (omega (arith, l)));
+      places = λ k l. word_good bytes (at + 8 + 4 * k) (λ n. nat_lt n (limits_in bytes).pages || n == UNMAPPED_WORD)
+          (made_good bytes (λ k. word_field bytes (at + 8 + 4 * k) (λ n. nat_lt n (limits_in bytes).pages || n == UNMAPPED_WORD)) 0 r.count k parts.0 (omega arith) (omega (arith, l)));
       rest = parts.1;
     }
 
@@ -105,7 +107,6 @@ pub record AreLeft (bytes : List ℕ) (n at : ℕ) (regions : Regions) : Type 0 
   pub good : AreGoodRecords bytes n at (place_count regions) last
   pub fresh : (q : ℕ) → is_above last q ≡ true → map.get regions q ≡ None
   pub opened : inserted regions (entries bytes n at) ≡ listed_regions bytes
-  pub end : at + sum_by record_size (records_from bytes n at) ≡ pages_at bytes
 
 -- at first all are left
 pub all_left : (bytes : List ℕ) (regions : Regions) → AreGoodRecords bytes (region_count bytes) (36 + ring_end bytes) 0 None
@@ -115,22 +116,21 @@ all_left bytes regions good none = subst (λ m. AreLeft bytes (region_count byte
   good = subst (λ total. AreGoodRecords bytes (region_count bytes) (36 + ring_end bytes) total None) (sym place_count-empty) good;
   fresh = λ q above. get-empty nat_cmp q;
   opened = built bytes (region_count bytes) (36 + ring_end bytes) 0 None good;
-  end = refl;
 })
 
 -- the first that is left
-pub next_left : (bytes : List ℕ) (n at : ℕ) (k : Kept) → k.limits ≡ limits_in bytes → AreLeft bytes (suc n) at k.regions
-    → IsNextRecord bytes at k
-next_left bytes n at k limits left =
+pub next_left : (bytes : List ℕ) (n at guest : ℕ) (regions : Regions) → guest ≡ (limits_in bytes).pages
+    → AreLeft bytes (suc n) at regions → IsNextRecord bytes at guest regions
+next_left bytes n at guest regions limits left =
     let r : RegionRecord = record_at bytes at in
-    let first = first_record bytes n at (place_count k.regions) left.last left.good in
+    let first = first_record bytes n at (place_count regions) left.last left.good in
     record {
       there = (let some = first.some in let end = (first.places (r.count - 1) (omega (arith, some))).0 in omega (arith, some, end));
       small = first.small;
       fresh = left.fresh r.id first.above;
       some = first.some;
       room = first.room;
-      places = λ j l. subst (λ limits. IsPlaceWord limits.pages (little_word bytes (at + 8 + 4 * j))) (sym limits) (first.places j l).1;
+      places = λ j l. subst (λ pages. IsPlaceWord pages (little_word bytes (at + 8 + 4 * j))) (sym limits) (first.places j l).1;
     }
 
 -- what is above the new id is above the last one
@@ -158,8 +158,6 @@ left_more bytes n at regions left =
     let r : RegionRecord = record_at bytes at in
     let list = listed_places bytes r in
     let first = first_record bytes n at (place_count regions) left.last left.good in
-    let size = sum_by-cons record_size r (records_from bytes n (behind bytes at)) in
-    let end = left.end in
     record {
       last = Some r.id;
       good = subst (λ total. AreGoodRecords bytes n (behind bytes at) total (Some r.id))
@@ -167,7 +165,6 @@ left_more bytes n at regions left =
       fresh = λ q above. get_other nat_cmp_total nat_cmp-IsAntisymmetric regions r.id q list (not_new r.id q above)
           ∙ left.fresh q (above_both left.last r.id q first.above above);
       opened = left.opened;
-      end = omega (arith, size, end);
     }
   where
     not_new : (id q : ℕ) → nat_lt id q ≡ true → q ≢ id
@@ -179,24 +176,34 @@ pub left_next : (bytes : List ℕ) (end counter at : ℕ) (regions : Regions) �
 left_next bytes end counter at regions l left =
     subst (λ n. AreLeft bytes n at regions) (let e : end - counter ≡ suc (end - (counter + 1)) = omega (arith, l) in e) left
 
--- the state with so many regions of the records, where others are left
-pub record AreOpened (bytes : List ℕ) (n at : ℕ) (s t : State) : Type 0 where
-  pub left : AreLeft bytes n at t.kept.regions
-  pub state : t ≡ with_regions s t.kept.regions
+-- the regions with so many of the records, where others are left
+pub record AreOpened (bytes : List ℕ) (n at : ℕ) (s t : RegionSet) : Type 0 where
+  pub left : AreLeft bytes n at t.regions
+  pub set : t ≡ record s { regions = t.regions }
+
+-- none yet
+pub regions_first : (bytes : List ℕ) (f : Fields) (s : RegionSet) → AreFields bytes f → s.regions ≡ map.empty
+    → AreOpened bytes (f.regions.count - 0) f.regions.at s s
+regions_first bytes f s are none = subst (λ (f : Fields). AreOpened bytes (f.regions.count - 0) f.regions.at s s) (sym are.said) (record {
+  left = subst (λ n. AreLeft bytes n (36 + ring_end bytes) s.regions) (let e : region_count bytes ≡ region_count bytes - 0 = omega arith in e)
+      (all_left bytes s.regions (parts_good bytes are.good).regions none);
+  set = refl;
+})
 
 -- one more
-pub regions_more : (bytes : List ℕ) (n at end : ℕ) (s t u : State) → AreLeft bytes (suc n) at t.kept.regions
-    → t ≡ with_regions s t.kept.regions
-    → u ≡ with_regions t (map.insert t.kept.regions (record_at bytes at).id (listed_places bytes (record_at bytes at)))
-    → end ≡ at + (8 + 4 * (record_at bytes at).count)
+pub regions_more : (bytes : List ℕ) (n at end : ℕ) (s t u : RegionSet) → AreLeft bytes (suc n) at t.regions
+    → t ≡ record s { regions = t.regions }
+    → u ≡ record t { regions = map.insert t.regions (record_at bytes at).id (listed_places bytes (record_at bytes at)) }
+    → end ≡ at + 8 + 4 * (record_at bytes at).count
     → AreOpened bytes n end s u
 regions_more bytes n at end s t u left was is e =
-    let news = map.insert t.kept.regions (record_at bytes at).id (listed_places bytes (record_at bytes at)) in
-    let now : u.kept.regions ≡ news = ap (λ s. s.kept.regions) is in
+    let news = map.insert t.regions (record_at bytes at).id (listed_places bytes (record_at bytes at)) in
+    let now : u.regions ≡ news = ap (λ (s : RegionSet). s.regions) is in
+    let same : end ≡ at + (8 + 4 * (record_at bytes at).count) = omega (arith, e) in
     record {
-      left = subst (λ end. AreLeft bytes n end u.kept.regions) (sym e)
-          (subst (λ m. AreLeft bytes n (at + (8 + 4 * (record_at bytes at).count)) m) (sym now) (left_more bytes n at t.kept.regions left));
-      state = is ∙ ap (λ s. with_regions s news) was ∙ ap (with_regions s) (sym now);
+      left = subst (λ end. AreLeft bytes n end u.regions) (sym same)
+          (subst (λ m. AreLeft bytes n (at + (8 + 4 * (record_at bytes at).count)) m) (sym now) (left_more bytes n at t.regions left));
+      set = is ∙ ap (λ (s : RegionSet). record s { regions = news }) was ∙ ap (λ m. record s { regions = m }) (sym now);
     }
 
 none_left : (bytes : List ℕ) (end counter at : ℕ) (regions : Regions) → end ≤ counter → AreLeft bytes (end - counter) at regions
@@ -204,12 +211,6 @@ none_left : (bytes : List ℕ) (end counter at : ℕ) (regions : Regions) → en
 none_left bytes end counter at regions l left = subst (λ n. AreLeft bytes n at regions) (let e : end - counter ≡ 0 = omega (arith, l) in e) left
 
 -- where none is left they are all regions
-pub regions_last : (bytes : List ℕ) (end counter at : ℕ) (regions : Regions) (s : State) → end ≤ counter
-    → AreLeft bytes (end - counter) at regions → with_regions s regions ≡ with_regions s (listed_regions bytes)
-regions_last bytes end counter at regions s l left = ap (with_regions s) (none_left bytes end counter at regions l left).opened
-
--- and the pages' records are next
-pub behind_last : (bytes : List ℕ) (end counter at : ℕ) (regions : Regions) → end ≤ counter → AreLeft bytes (end - counter) at regions
-    → at ≡ pages_at bytes
-behind_last bytes end counter at regions l left =
-    let e : at ≡ at + 0 = omega arith in e ∙ (none_left bytes end counter at regions l left).end
+pub regions_last : (bytes : List ℕ) (end counter at : ℕ) (regions : Regions) → end ≤ counter
+    → AreLeft bytes (end - counter) at regions → regions ≡ listed_regions bytes
+regions_last bytes end counter at regions l left = (none_left bytes end counter at regions l left).opened

@@ -6,7 +6,9 @@ use Rattle.std.proofs.lemmas.List.Elements.{All-drop, All-from_get_or, All-get_o
 use Rattle.std.proofs.lemmas.List.FromFn.{length-map-range_with_len}
 use Rattle.std.specs.FinMap as map
 use Rattle.std.specs.List.{range_with_len}
+use Rattle.svga_cmd.specs.Limits.{AreLimits}
 use Rattle.svga_cmd.specs.Pages.{HasPage, IsKey, IsPage, Memory}
+use Rattle.svga_cmd.specs.declared.constants.TheConstants.{UNMAPPED_WORD}
 use Rattle.svga_cmd.specs.declared.limits.Limits.{Limits}
 use Rattle.svga_cmd.specs.declared.page.PageKey.{PageKey}
 use Rattle.svga_cmd.specs.declared.page.PageKey.TheVariants.{Guest}
@@ -16,13 +18,13 @@ use Rattle.svga_model.proofs.ValidRegions.{no_regions, regions_inserted}
 use Rattle.svga_model.proofs.ValidRules.{all_made}
 use Rattle.svga_model.proofs.ValidStateLaws.{opening_good}
 use Rattle.svga_model.specs.Accepted.{AreWords}
-use Rattle.svga_model.specs.CaptureFields.{RegionRecord, first_flaw, limits_in, page_count, page_fields, page_record_at, record_at, region_count, ring_end, unmapped_word}
-use Rattle.svga_model.specs.Captures.{flaw_in, listed_bytes, listed_key, listed_places, listed_regions, opening_in, place_of_word, words_in}
+use Rattle.svga_model.specs.CaptureFields.{RegionRecord, first_flaw, limits_in, page_count, page_fields, page_record_at, record_at, region_count, ring_end}
+use Rattle.svga_model.specs.Captures.{flaw_in, listed_bytes, listed_key, listed_places, listed_regions, opening_in, place_of_word, waiting_words}
 use Rattle.svga_model.specs.Regions.{Regions, place_count}
 use Rattle.svga_model.specs.States.{opening_memory}
 use Rattle.svga_model.specs.ValidStates.{ArePages, AreRegions}
 use Rattle.svga_model.specs.Walks.{little_word}
-use Rattle.svga_capture.proofs.OpeningGood.{header_good, parts_good}
+use Rattle.svga_capture.proofs.FieldLaws.{parts_good}
 use Rattle.svga_capture.proofs.OpeningPages.{filled, page_record}
 use Rattle.svga_capture.proofs.OpeningPlaces.{mapped}
 use Rattle.svga_capture.proofs.OpeningRegions.{AreLeft, all_left, first_record, left_more}
@@ -34,8 +36,8 @@ AreBytes bytes = (i : ℕ) → slice_index bytes i < 256
 
 -- a place that a word tells is unmapped or a guest page
 place_key : (l : Limits) (w : ℕ) → IsPlaceWord l.pages w → IfSome (place_of_word w) (IsKey l)
-place_key l w is = go (w == unmapped_word) refl where
-  go : (b : Bool) → (w == unmapped_word) ≡ b → IfSome (cond b None (Some (Guest w))) (IsKey l)
+place_key l w is = go (w == UNMAPPED_WORD) refl where
+  go : (b : Bool) → (w == UNMAPPED_WORD) ≡ b → IfSome (cond b None (Some (Guest w))) (IsKey l)
   go true e = tt
   go false e = mapped l.pages w is e
 
@@ -86,12 +88,11 @@ pages_whole bytes (suc n) j m small good within (are, has) =
     )
 
 -- a capture without a flaw opens with a whole state
-pub opening_whole : (bytes : List ℕ) → flaw_in bytes ≡ None → AreBytes bytes
+pub opening_whole : (bytes : List ℕ) → flaw_in bytes ≡ None → AreLimits (limits_in bytes) → AreBytes bytes
     → IsWholeState (limits_in bytes) (opening_in bytes)
-opening_whole bytes good small =
+opening_whole bytes good limits small =
     let l = limits_in bytes in
     let parts = parts_good bytes good in
-    let limits = (header_good bytes parts.header).limits in
     let pages = pages_whole bytes (page_count bytes) 0 (opening_memory l) small parts.pages (omega arith)
     (opening_pages l, opening_has l) in (
       refl,
@@ -113,10 +114,10 @@ word_small : (bytes : List ℕ) (i : ℕ) → AreBytes bytes → little_word byt
 word_small bytes i small = omega (arith, small i, small (i + 1), small (i + 2), small (i + 3))
 
 -- the words that wait are of 32 bits
-pub words_small : (bytes : List ℕ) → AreBytes bytes → AreWords (words_in bytes)
-words_small bytes small = λ i. elim (cases_lt i (length (words_in bytes))) as
-    (λ _. slice_index (words_in bytes) i < 2 ^ 32) [
-      | inl less ↦ All-get_or (λ word. word < 2 ^ 32) (words_in bytes) i 0 less
+pub words_small : (bytes : List ℕ) → AreBytes bytes → AreWords (waiting_words bytes)
+words_small bytes small = λ i. elim (cases_lt i (length (waiting_words bytes))) as
+    (λ _. slice_index (waiting_words bytes) i < 2 ^ 32) [
+      | inl less ↦ All-get_or (λ word. word < 2 ^ 32) (waiting_words bytes) i 0 less
           (all_made (λ word. word < 2 ^ 32) _ _ (λ k _. word_small bytes _ small))
-      | inr past ↦ subst (λ n. n < 2 ^ 32) (sym (get_or_past (words_in bytes) i 0 past)) (omega arith)
+      | inr past ↦ subst (λ n. n < 2 ^ 32) (sym (get_or_past (waiting_words bytes) i 0 past)) (omega arith)
     ]

@@ -1,49 +1,90 @@
 -- How a replay ends: where its words do, or at the fault of a command.
-use Rattle.std.proofs.Common.{◌≡◌, ℕ, ◌+◌, ◌<◌, ◌≤◌, List, [], ◌∷◌, ◌++◌, length, take, drop, slice_index, Some, None, true, false, refl, sym, ap, subst, ◌∙◌, append_assoc, append-nil, arith, length-take}
+use Rattle.std.proofs.Common.{◌≡◌, ℕ, ◌+◌, List, [], ◌∷◌, ◌++◌, length, take, drop, None, All, Ok, refl, sym, ap, subst, ◌∙◌, append_assoc, append-nil, arith, length-append, length-take}
 use Rattle.std.proofs.lemmas.Grind.{flat_map-append}
-use Rattle.std.proofs.lemmas.List.{take-append-drop, take_all}
-use Rattle.std.proofs.lemmas.List.Elements.{All-take}
-use Rattle.svga_cmd.specs.Spelling.{Spells, spelling}
+use Rattle.std.proofs.lemmas.List.{take-append-drop, take_at}
+use Rattle.std.proofs.lemmas.List.Elements.{All-head, All-tail, All-take}
+use Rattle.svga_cmd.specs.Spelling.{spelling}
 use Rattle.svga_cmd.specs.WellFormed.{IsWellFormed}
 use Rattle.svga_cmd.specs.declared.command.Command.{Command}
+use Rattle.svga_cmd.specs.declared.ending.Ending.{Ending}
+use Rattle.svga_cmd.specs.declared.ending.ReplayEnd.{ReplayEnd}
+use Rattle.svga_cmd.specs.declared.ending.ReplayEnd.TheVariants as replay
 use Rattle.svga_cmd.specs.declared.fault.Fault.{Fault}
-use Rattle.svga_decode.proofs.FeedLaws.{fed_refused, ready_ending, unready_ending}
-use Rattle.svga_decode.specs.Answers.{IsAnswer, refusal_of}
-use Rattle.svga_decode.specs.Reading.{front}
-use Rattle.svga_decode.specs.declared.answer.Cause.{Cause}
-use Rattle.svga_decode.specs.declared.answer.Fed.TheVariants as fed
+use Rattle.svga_cmd.specs.declared.limits.Limits.{Limits}
+use Rattle.svga_decode.specs.Visits.{AreTaken, IsVisited, IsVisitedUpTo}
+use Rattle.svga_machine.proofs.StoreStates.{served_after}
 use Rattle.svga_machine.specs.Displays.{IsWholeState}
-use Rattle.svga_model.proofs.GrammarBadPlaces.{split_at}
 use Rattle.svga_model.proofs.GrammarEndings.{one_ending, some_ending}
-use Rattle.svga_model.proofs.GrammarFronts.{HasCome-whole, as_many}
+use Rattle.svga_model.proofs.GrammarFronts.{as_many}
 use Rattle.svga_model.proofs.ReplayLaws.{within_regions}
 use Rattle.svga_model.specs.Accepted.{AreWords}
 use Rattle.svga_model.specs.Acts.{Do}
 use Rattle.svga_model.specs.Captures.{Capture}
-use Rattle.svga_model.specs.Endings.{End, IsEnding, IsFront, StandAtFront}
-use Rattle.svga_model.specs.Endings as end
+use Rattle.svga_model.specs.Endings.{IsEnding, IsFront, StandAtFront}
 use Rattle.svga_model.specs.Faults.{fault_of}
-use Rattle.svga_model.specs.Progress.{HasCome}
-use Rattle.svga_model.specs.Replays.{IsWithinRegions, acts_of, replay_of}
-use Rattle.svga_model.specs.Replays as model
+use Rattle.svga_model.specs.Replays.{IsWithinRegions, acts_of, end_of_words, replay_of}
+use Rattle.svga_model.specs.Runs.{done, run}
 use Rattle.svga_model.specs.Sentences.{spelling_all}
-use Rattle.svga_capture.proofs.RunEnds.{end_done, stop_done}
-use Rattle.svga_capture.specs.Replayed.{IsReplayOf, end_of, replay_in}
-use Rattle.svga_capture.specs.Running.{AreRun, EndsAt, IsRunning, state_in}
-use Rattle.svga_capture.specs.declared.replaying.Progress.{Progress}
-use Rattle.svga_capture.specs.declared.replaying.ReplayEnd.{ReplayEnd}
-use Rattle.svga_capture.specs.declared.replaying.ReplayEnd.TheVariants.{Whole, Refused, Torn, Fault as AtCommand}
+use Rattle.svga_model.specs.States.{State}
+use Rattle.svga_model.specs.Steps.{step}
+use Rattle.svga_capture.proofs.RunEnds.{end_done, more_done, stop_done}
+use Rattle.svga_capture.specs.Replayed.{IsReplayOf, replay_in}
+use Rattle.svga_capture.specs.Running.{Runs, Stops, state_in}
 use Rattle.svga_capture.specs.declared.replaying.Replayed.{Replayed}
+use Rattle.svga_capture.specs.declared.replaying.Running.{Running}
 
--- what a replay that has come so far leaves
-abbrev pub left_by : Progress → ReplayEnd → Replayed
-left_by p ending = record {
-  commands = p.commands;
-  fence = p.machine.kept.fence;
-  machine = p.machine;
-  pages = p.pages;
-  ending = ending;
+-- All of these commands were run from the opening state on.
+pub record AreRun (l : Limits) (opening : State) (cs : List Command) (r : Running) : Type 0 where
+  pub commands : r.commands ≡ length cs
+  pub state : state_in r ≡ run opening (acts_of cs)
+  pub all : done opening (acts_of cs) ≡ length cs
+  pub whole : IsWholeState l (state_in r)
+  pub chain : r.machine.chain ≡ None
+
+pub none_run : (l : Limits) (opening : State) (r : Running) → r.commands ≡ 0 → state_in r ≡ opening
+    → IsWholeState l (state_in r) → r.machine.chain ≡ None → AreRun l opening [] r
+none_run l opening r count state whole chain = record {
+  commands = count;
+  state = state;
+  all = refl;
+  whole = whole;
+  chain = chain;
 }
+
+-- and one more
+one_run : (l : Limits) (opening : State) (cs : List Command) (c : Command) (r now : Running) → AreRun l opening cs r
+    → IsWellFormed c → Runs r c now → AreRun l opening (cs ++ c ∷ []) now
+one_run l opening cs c r now are well one =
+    let more = more_done opening cs c are.all (ap (λ s. fault_of s (Do c)) (sym are.state) ∙ one.admitted) in
+    let counts = are.commands in
+    let count = one.commands in
+    record {
+      commands = omega (arith, count, counts, length-append cs (c ∷ []));
+      state = one.state ∙ ap (λ s. step s (Do c)) are.state ∙ sym more.0;
+      all = more.1;
+      whole = served_after l r.machine now.machine r.pages now.pages c (Ok (tt {0})) are.whole well (sym one.admitted) one.state tt;
+      chain = one.chain ∙ are.chain;
+    }
+
+-- taking a command is running it, and stopping at one is its fault
+abbrev pub Takes : Running → Unit {0} → ℕ → Command → Running → Unit {0} → Type 0
+Takes r on first c now on' = Runs r c now
+
+abbrev pub StopsAt : Running → Unit {0} → ℕ → Command → Fault → Running → Unit {0} → Type 0
+StopsAt r on first c fault now on' = Stops r c fault now
+
+-- commands that were taken were run
+all_run : (l : Limits) (opening : State) (before cs : List Command) (r : Running) (t : Unit {0}) (first : ℕ) (w : Running)
+    (u : Unit {0}) → All IsWellFormed cs → AreRun l opening before r → AreTaken Takes r t first cs w u
+    → AreRun l opening (before ++ cs) w
+all_run l opening before [] r t first w u well are taken =
+    subst (λ v. AreRun l opening (before ++ []) v) (sym taken.0)
+    (subst (λ cs. AreRun l opening cs r) (sym (append-nil before)) are)
+all_run l opening before (c ∷ cs) r t first w u well are taken =
+    subst (λ ds. AreRun l opening ds w) (append_assoc before (c ∷ []) cs)
+    (all_run l opening (before ++ c ∷ []) cs taken.0 taken.1 (first + length (spelling c)) w u
+    (All-tail IsWellFormed c cs well)
+    (one_run l opening before c r taken.0 are (All-head IsWellFormed c cs well) taken.2) taken.3)
 
 -- what stands at the front begins the whole front
 pub front_extends : (ws : List ℕ) (cs ds : List Command) → IsFront ws cs → StandAtFront ds ws
@@ -60,117 +101,76 @@ front_extends ws cs ds whole stands =
     ∙ sym whole.stands.words.1 ∙ stands.words.1)
     (omega (arith, length-take (length ds) cs, whole.longest ds stands)))
 
--- the words end so behind these commands, of which so many were run, up to this state, and it ended so
-tells : (c : Capture) (cs : List Command) (end : End) (p : Progress) (ending : ReplayEnd) → IsEnding c.words cs end
-    → replay_in (left_by p ending) ≡ replay_of c.opening cs end → IsWholeState c.limits (state_in p)
-    → p.machine.chain ≡ None → IsReplayOf c (left_by p ending)
-tells c cs end p ending ends same whole chain = record {
+-- what a replay that has come so far leaves
+abbrev pub left_by : Running → ReplayEnd → Replayed
+left_by r ending = record {
+  commands = r.commands;
+  fence = r.machine.kept.fence;
+  machine = r.machine;
+  pages = r.pages;
+  ending = ending;
+}
+
+-- the words end so behind these commands, of which it is the replay
+tells : (c : Capture) (cs : List Command) (end : Ending) (r : Running) (ending : ReplayEnd) → IsEnding c.words cs end
+    → replay_in (left_by r ending) ≡ replay_of c.opening cs end → IsWholeState c.limits (state_in r)
+    → r.machine.chain ≡ None → IsReplayOf c (left_by r ending)
+tells c cs end r ending ends same whole chain = record {
   replay = record { commands = cs; end = end; ending = ends; same = same };
   fence = refl;
   whole = whole;
   chain = chain;
 }
 
--- it ended where the words do
-at_end : (c : Capture) (cs : List Command) (ws : List ℕ) (p q : Progress) (ending : ReplayEnd) (end : End)
-    → AreRun c.limits c.opening ws cs p → state_in q ≡ state_in p → q.commands ≡ p.commands
-    → q.machine.chain ≡ p.machine.chain → IsEnding c.words cs end → end_of ending ≡ model.AtEnd end
-    → IsReplayOf c (left_by q ending)
-at_end c cs ws p q ending end are state count chain ends is =
-    tells c cs end q ending ends
-    ((λ i. record { commands = (count ∙ are.commands) i; state = (state ∙ are.state) i; ending = is i })
+-- all commands were taken
+pub whole_replay : (c : Capture) (first r : Running) (t u : Unit {0}) (end : Ending)
+    → AreRun c.limits c.opening [] first → IsVisited Takes c.words first t end r u
+    → IsReplayOf c (left_by r (end_of_words end))
+whole_replay c first r t u end none (cs, ends, taken) =
+    let are = all_run c.limits c.opening [] cs first t 0 r u ends.front.stands.well_formed none taken in
+    tells c cs end r (end_of_words end) ends
+    ((λ i. record { commands = are.commands i; state = are.state i; ending = end_of_words end })
     ∙ sym (end_done c.opening cs end are.all))
-    (subst (IsWholeState c.limits) (sym state) are.whole) (chain ∙ are.chain)
+    are.whole are.chain
 
--- all words came, and no command is torn
-pub whole_replay : (c : Capture) (i : ℕ) (p : Progress) → length c.words ≤ i
-    → IsRunning c.limits c.opening (take i c.words) p → p.between ≡ true → IsReplayOf c (left_by p Whole)
-whole_replay c i p past (cs, are) last =
-    at_end c cs (take i c.words) p p Whole end.Whole are refl refl refl
-    (ready_ending c.words cs p.decoder
-    (subst (λ t. HasCome t cs (front p.decoder)) (take_all i c.words past) are.come) (are.between.0 last))
-    refl
-
--- all words came, and the last command isn't whole
-pub torn_replay : (c : Capture) (i count : ℕ) (p : Progress) → length c.words ≤ i → count ≡ length c.words
-    → IsRunning c.limits c.opening (take i c.words) p → p.between ≡ false → IsReplayOf c (left_by p (Torn count))
-torn_replay c i count p past is (cs, are) inside =
-    at_end c cs (take i c.words) p p (Torn count) (end.Torn (length c.words)) are refl refl refl
-    (unready_ending c.words cs p.decoder
-    (subst (λ t. HasCome t cs (front p.decoder)) (take_all i c.words past) are.come) are.live
-    (λ ready. let ended = are.between.1 ready in absurd (cc (ended, inside))))
-    (ap (λ n. model.AtEnd (end.Torn n)) is)
-
--- a word was refused
-refused_replay : (c : Capture) (i : ℕ) (p q : Progress) (word : ℕ) (cause : Cause) → i < length c.words
-    → IsRunning c.limits c.opening (take i c.words) p → word ≡ i
-    → IsAnswer (fed.Refused cause) (front p.decoder ++ slice_index c.words i ∷ [])
-    → state_in q ≡ state_in p → q.commands ≡ p.commands → q.machine.chain ≡ p.machine.chain
-    → IsReplayOf c (left_by q (Refused word cause))
-refused_replay c i p q word cause less (cs, are) is answer state count chain =
-    at_end c cs (take i c.words) p q (Refused word cause) (end.Refused i (refusal_of cause)) are state count chain
-    (subst (λ t. IsEnding t cs (end.Refused i (refusal_of cause))) (split_at c.words i less)
-    (subst (λ k. IsEnding (take i c.words ++ slice_index c.words i ∷ drop (i + 1) c.words) cs
-    (end.Refused k (refusal_of cause)))
-    (let e : length (take i c.words) ≡ i = omega (arith, length-take i c.words, less) in e)
-    (fed_refused (take i c.words) cs p.decoder (slice_index c.words i) (drop (i + 1) c.words) cause are.come answer)))
-    (ap (λ n. model.AtEnd (end.Refused n (refusal_of cause))) is)
-
--- the commands so far and the one that is whole with the next word stand at the front
-now_stand : (ws : List ℕ) (i : ℕ) (cs : List Command) (front : List ℕ) (d : Command) → i < length ws
-    → HasCome (take i ws) cs front
-    → Spells d (front ++ slice_index ws i ∷ []) → StandAtFront (cs ++ d ∷ []) ws
-now_stand ws i cs front d less come spells =
-    let word = slice_index ws i in
-    let whole = HasCome-whole (take i ws) cs front word d come spells in
-    record {
-      well_formed = whole.well_formed;
-      words = (
-        drop (i + 1) ws,
-        sym (split_at ws i less)
-            ∙ sym (append_assoc (take i ws) (word ∷ []) (drop (i + 1) ws))
-            ∙ ap (λ t. t ++ drop (i + 1) ws) (whole.words ∙ append-nil (spelling_all (cs ++ d ∷ []))),
-      );
-    }
+-- the commands in front of one
+front_formed : (cs : List Command) (d : Command) → All IsWellFormed (cs ++ d ∷ []) → All IsWellFormed cs
+front_formed cs d well =
+    subst (All IsWellFormed) (take_at cs (d ∷ []) (length cs) refl) (All-take IsWellFormed (length cs) (cs ++ d ∷ []) well)
 
 -- a command has a fault
-fault_replay : (c : Capture) (i : ℕ) (p q : Progress) (command : ℕ) (fault : Fault) (d : Command)
-    → AreWords c.words → i < length c.words → IsRunning c.limits c.opening (take i c.words) p → command ≡ p.commands
-    → Spells d (front p.decoder ++ slice_index c.words i ∷ []) → fault_of (state_in p) (Do d) ≡ Some fault
-    → state_in q ≡ state_in p → q.commands ≡ p.commands → q.machine.chain ≡ p.machine.chain
-    → IsReplayOf c (left_by q (AtCommand command fault))
-fault_replay c i p q command fault d words less (cs, are) number spells some state count chain =
+pub fault_replay : (c : Capture) (first r : Running) (t u : Unit {0}) (fault : Fault) → AreWords c.words
+    → AreRun c.limits c.opening [] first → IsVisitedUpTo Takes StopsAt c.words first t fault r u
+    → IsReplayOf c (left_by r (replay.Fault r.commands fault))
+fault_replay c first r t u fault words none (cs, d, stands, x, y, taken, stops) =
+    let are = all_run c.limits c.opening [] cs first t 0 x y (front_formed cs d stands.well_formed) none taken in
     let ending = some_ending c.words words in
-    let stands = now_stand c.words i cs (front p.decoder) d less are.come spells in
     let rest = drop (length (cs ++ d ∷ [])) ending.0 in
     let extends = front_extends c.words ending.0 (cs ++ d ∷ []) ending.2.front stands in
     let front_is : ending.0 ≡ cs ++ d ∷ rest = extends ∙ append_assoc cs (d ∷ []) rest in
-    let fails = ap (λ s. fault_of s (Do d)) (sym are.state) ∙ some in
+    let fails = ap (λ s. fault_of s (Do d)) (sym are.state) ∙ stops.refused in
     let stopped = stop_done c.opening cs d rest fault ending.1 are.all fails in
-    tells c ending.0 ending.1 q (AtCommand command fault) ending.2
-    ((λ i. record {
-      commands = (count ∙ are.commands) i;
-      state = (state ∙ are.state) i;
-      ending = model.AtFault ((number ∙ are.commands) i) fault;
-    })
+    let left : IsReplayOf c (left_by x (replay.Fault x.commands fault)) =
+    tells c ending.0 ending.1 x (replay.Fault x.commands fault) ending.2
+    ((λ i. record { commands = are.commands i; state = are.state i; ending = replay.Fault (are.commands i) fault })
     ∙ sym stopped ∙ ap (λ ds. replay_of c.opening ds ending.1) (sym front_is))
-    (subst (IsWholeState c.limits) (sym state) are.whole) (chain ∙ are.chain)
+    are.whole are.chain in
+    subst (λ (r : Running). IsReplayOf c (left_by r (replay.Fault r.commands fault))) (sym stops.same) left
 
--- a word ends the replay
-pub stopped_replay : (c : Capture) (i : ℕ) (p q : Progress) (ending : ReplayEnd) → AreWords c.words
-    → i < length c.words → IsRunning c.limits c.opening (take i c.words) p
-    → EndsAt i (front p.decoder ++ slice_index c.words i ∷ []) p ending
-    → state_in q ≡ state_in p → q.commands ≡ p.commands → q.machine.chain ≡ p.machine.chain
-    → IsReplayOf c (left_by q ending)
-stopped_replay c i p q Whole words less running ends state count chain = absurd ends
-stopped_replay c i p q (Refused word cause) words less running ends state count chain =
-    refused_replay c i p q word cause less running ends.0 ends.1 state count chain
-stopped_replay c i p q (Torn word) words less running ends state count chain = absurd ends
-stopped_replay c i p q (AtCommand command fault) words less running ends state count chain =
-    fault_replay c i p q command fault ends.1.0 words less running ends.0 ends.1.1 ends.1.2 state count chain
+-- what is told of it
+pub given_replay : (c : Capture) (r : Running) (fence : ℕ) (ending is : ReplayEnd) → fence ≡ r.machine.kept.fence
+    → ending ≡ is → IsReplayOf c (left_by r is)
+    → IsReplayOf c (record { commands = r.commands; fence = fence; machine = r.machine; pages = r.pages; ending = ending })
+given_replay c r fence ending is e f left = subst (IsReplayOf c) (λ i. record {
+  commands = r.commands;
+  fence = sym e i;
+  machine = r.machine;
+  pages = r.pages;
+  ending = sym f i;
+}) left
 
 -- it is the replay over the pages of its regions alone
-pub within_replay : (c : Capture) (r : Replayed) → IsReplayOf c r → (cs : List Command) (end : End)
+pub within_replay : (c : Capture) (r : Replayed) → IsReplayOf c r → (cs : List Command) (end : Ending)
     → IsEnding c.words cs end
     → (replay_in r ≡ replay_of c.opening cs end) × IsWithinRegions c.opening cs end
 within_replay c r is cs end ends =

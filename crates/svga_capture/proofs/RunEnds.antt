@@ -4,12 +4,13 @@ use Rattle.std.proofs.lemmas.List.{length-map, map-append}
 use Rattle.std.proofs.lemmas.Option.{slice_get_past}
 use Rattle.std.specs.List.{slice_get}
 use Rattle.svga_cmd.specs.declared.command.Command.{Command}
+use Rattle.svga_cmd.specs.declared.ending.Ending.{Ending}
+use Rattle.svga_cmd.specs.declared.ending.ReplayEnd.TheVariants as replay
 use Rattle.svga_cmd.specs.declared.fault.Fault.{Fault}
 use Rattle.svga_model.proofs.RunLaws.{done-first, run-first, run_whole}
 use Rattle.svga_model.specs.Acts.{Do}
-use Rattle.svga_model.specs.Endings.{End}
 use Rattle.svga_model.specs.Faults.{fault_of, is_admissible}
-use Rattle.svga_model.specs.Replays.{AtEnd, AtFault, acts_of, replay_end, replay_of}
+use Rattle.svga_model.specs.Replays.{acts_of, end_of_words, replay_end, replay_of}
 use Rattle.svga_model.specs.Runs.{done, run, stopping_fault}
 use Rattle.svga_model.specs.States.{State}
 use Rattle.svga_model.specs.Steps.{step}
@@ -43,20 +44,18 @@ get_behind [] x ys = refl
 get_behind (y ∷ xs) x ys = get_behind xs x ys
 
 -- and then one that has a fault, whatever follows it
-pub stop_done : (s : State) (cs : List Command) (c : Command) (ds : List Command) (f : Fault) (end : End)
+pub stop_done : (s : State) (cs : List Command) (c : Command) (ds : List Command) (f : Fault) (end : Ending)
     → AreDone s cs
     → fault_of (run s (acts_of cs)) (Do c) ≡ Some f
     → replay_of s (cs ++ c ∷ ds) end ≡ record {
       commands = length cs;
       state = run s (acts_of cs);
-      ending = AtFault
-          (length cs) f;
+      ending = replay.Fault (length cs) f;
     }
 stop_done s cs c ds f end all some = λ i. record {
   commands = count i;
   state = left i;
-  ending = replay_end
-      (count i) (fault i) end;
+  ending = replay_end (count i) (fault i) end;
 } where
   acts : acts_of (cs ++ c ∷ ds) ≡ acts_of cs ++ Do c ∷ acts_of ds
   acts = map-append Do cs (c ∷ ds)
@@ -84,13 +83,12 @@ stop_done s cs c ds f end all some = λ i. record {
   fault = (λ i. option_and_then (fault_of (left i)) (at i)) ∙ some
 
 -- where no other follows
-pub end_done : (s : State) (cs : List Command) (end : End) → AreDone s cs
-    → replay_of s cs end ≡ record { commands = length cs; state = run s (acts_of cs); ending = AtEnd end }
+pub end_done : (s : State) (cs : List Command) (end : Ending) → AreDone s cs
+    → replay_of s cs end ≡ record { commands = length cs; state = run s (acts_of cs); ending = end_of_words end }
 end_done s cs end all = λ i. record {
   commands = all i;
   state = run s (acts_of cs);
-  ending = replay_end (all i)
-      (fault i) end;
+  ending = replay_end (all i) (fault i) end;
 } where
   past : slice_get (acts_of cs) (done s (acts_of cs)) ≡ None
   past = let count = done_acts s cs all in slice_get_past (acts_of cs) (done s (acts_of cs)) (omega (arith, count))

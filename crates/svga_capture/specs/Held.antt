@@ -8,4 +8,14 @@ use Rattle.svga_model.specs.Captures.{Capture}
 use Rattle.svga_model.specs.States.{State}
 
 abbrev pub coded_capture : Coded Capture
-coded_capture = code_by (ℕ × (ℕ × (Limits × (State × List ℕ)))) (coded× coded_ℕ (coded× coded_ℕ (coded× limits_row.the_row.coded (coded× coded_state (coded_list coded_ℕ))))) (λ c. (c.min, (c.max, (c.limits, (c.opening, c.words))))) (λ p. record { min = p.0; max = p.1.0; limits = p.1.1.0; opening = p.1.1.1.0; words = p.1.1.1.1 }) (λ _. refl)
+coded_capture =
+    code_by (ℕ × (ℕ × (Limits × (State × List ℕ))))
+    (coded× coded_ℕ (coded× coded_ℕ
+    (coded× limits_row.the_row.coded (coded× coded_state (coded_list coded_ℕ)))))
+    (λ c. (c.min, (c.max, (c.limits, (c.opening, c.words))))) (λ p. record {
+      min = p.0;
+      max = p.1.0;
+      limits = p.1.1.0;
+      opening = p.1.1.1.0;
+      words = p.1.1.1.1;
+    }) (λ _. refl)

@@ -1,6 +1,7 @@
 pub mod Answers
+pub mod Fields
 pub mod Held
-pub mod Judged
 pub mod Openings
 pub mod Replayed
+pub mod Rings
 pub mod Running

@@ -1,46 +1,33 @@
--- A replay that goes on, and how it ends.
-use Rattle.std.specs.Prelude.{◌≡◌, ◌↔◌, ℕ, List, length, IsTrue, Some, None}
-use Rattle.svga_cmd.specs.Spelling.{Spells}
+-- A replay that goes on, command by command.
+use Rattle.std.specs.Prelude.{◌≡◌, ℕ, ◌+◌, ◌≤◌, Some, None}
 use Rattle.svga_cmd.specs.declared.command.Command.{Command}
-use Rattle.svga_cmd.specs.declared.limits.Limits.{Limits}
-use Rattle.svga_decode.specs.Answers.{IsAnswer}
-use Rattle.svga_decode.specs.Reading.{IsLive, IsReady, front}
-use Rattle.svga_decode.specs.declared.answer.Fed.TheVariants as fed
+use Rattle.svga_cmd.specs.declared.fault.Fault.{Fault}
 use Rattle.svga_machine.specs.Displays.{IsWholeState}
 use Rattle.svga_machine.specs.MachineSet.{state_with}
 use Rattle.svga_model.specs.Acts.{Do}
 use Rattle.svga_model.specs.Faults.{fault_of}
-use Rattle.svga_model.specs.Progress.{HasCome}
-use Rattle.svga_model.specs.Replays.{acts_of}
-use Rattle.svga_model.specs.Runs.{done, run}
 use Rattle.svga_model.specs.States.{State}
-use Rattle.svga_capture.specs.declared.replaying.Progress.{Progress}
-use Rattle.svga_capture.specs.declared.replaying.ReplayEnd.{ReplayEnd}
-use Rattle.svga_capture.specs.declared.replaying.ReplayEnd.TheVariants.{Whole, Refused, Torn, Fault}
+use Rattle.svga_model.specs.Steps.{step}
+use Rattle.svga_capture.specs.declared.replaying.Running.{Running}
 
 -- the state that it has come to
-abbrev pub state_in : Progress → State
-state_in p = state_with p.machine p.pages
+abbrev pub state_in : Running → State
+state_in r = state_with r.machine r.pages
 
--- The words so far have come as these commands, and all of them were run from the opening state on.
-pub record AreRun (l : Limits) (opening : State) (ws : List ℕ) (cs : List Command) (p : Progress) : Type 0 where
-  pub come : HasCome ws cs (front p.decoder)
-  pub live : IsLive p.decoder.last
-  pub between : IsTrue p.between ↔ IsReady p.decoder
-  pub commands : p.commands ≡ length cs
-  pub state : state_in p ≡ run opening (acts_of cs)
-  pub all : done opening (acts_of cs) ≡ length cs
-  pub whole : IsWholeState l (state_in p)
-  pub chain : p.machine.chain ≡ None
+-- It can run a command that begins at this word: it ran no more commands than words stand before,
+-- and its state is a whole one.
+pub record CanRun (r : Running) (first : ℕ) : Type 0 where
+  pub few : r.commands ≤ first
+  pub whole : IsWholeState r.machine.kept.limits (state_in r)
 
-abbrev pub IsRunning : Limits → State → List ℕ → Progress → Type 0
-IsRunning l opening ws p = (cs : List Command) × AreRun l opening ws cs p
+-- a command without a fault is run
+pub record Runs (r : Running) (c : Command) (now : Running) : Type 0 where
+  pub admitted : fault_of (state_in r) (Do c) ≡ None
+  pub state : state_in now ≡ step (state_in r) (Do c)
+  pub commands : now.commands ≡ r.commands + 1
+  pub chain : now.machine.chain ≡ r.machine.chain
 
--- A replay that has come so far ends so at word i, which makes these the words of its last command: with this word no
--- command goes on, or the command that is whole with it has a fault.
-abbrev pub EndsAt : ℕ → List ℕ → Progress → ReplayEnd → Type 0
-EndsAt i ws p Whole = ⊥
-EndsAt i ws p (Refused word cause) = (word ≡ i) × IsAnswer (fed.Refused cause) ws
-EndsAt i ws p (Torn word) = ⊥
-EndsAt i ws p (Fault command fault) = (command ≡ p.commands) ×
-    ((c : Command) × Spells c ws × (fault_of (state_in p) (Do c) ≡ Some fault))
+-- it stops at a command with this fault, which changes nothing
+pub record Stops (r : Running) (c : Command) (fault : Fault) (now : Running) : Type 0 where
+  pub refused : fault_of (state_in r) (Do c) ≡ Some fault
+  pub same : now ≡ r

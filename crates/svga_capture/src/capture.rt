@@ -1,144 +1,62 @@
 //! Captures, and how they are read.
-ghost use Rattle.std.specs.Prelude.{IfOk, ◌≡◌, ℕ, ◌+◌, ◌/◌, ◌<◌, ◌≤◌, List, None, Ok, length, slice_index};
-ghost use Rattle.std.specs.Result.{result_err};
+ghost use Rattle.std.specs.Prelude.{IfOk, ◌≡◌, ℕ, ◌+◌, ◌<◌, ◌≤◌, List, None, Ok, length, slice_index};
 ghost use Rattle.svga_capture.specs.Answers.{IsAnswer};
-ghost use Rattle.svga_capture.specs.Judged.{told};
 ghost use Rattle.svga_machine.specs.Displays.{IsWholeState};
 ghost use Rattle.svga_machine.specs.MachineSet.{state_with};
 ghost use Rattle.svga_model.specs.Accepted.{AreWords};
-ghost use Rattle.svga_model.specs.Addresses.{address, dwords_between};
-ghost use Rattle.svga_model.specs.CaptureFields.{limits_in, min_in, next_in, ring_end, stop_in};
-ghost use Rattle.svga_model.specs.Captures.{capture_of, fence_in, flaw_in, waiting};
-ghost use Rattle.svga_model.specs.Walks.{little_word};
+ghost use Rattle.svga_model.specs.Captures.{capture_of, waiting_words};
 
-use crate::fault::{CaptureCause, CaptureFault, Wrong};
-use crate::field::{holds, word};
-use crate::fifo::judge_fifo;
-use crate::header::judge_header;
+use crate::fault::CaptureFault;
+use crate::field::word;
+use crate::fields::{Fields, read_fields};
+use crate::layout::FIFO_AT;
 use crate::opening::opening_of;
-use crate::pages::judge_pages;
-use crate::regions::judge_regions;
 use std::alloc::{AllocError, Global};
 use std::marker::Model;
 use svga_cmd::MemPages;
+use svga_cmd::constants::MAX_INPUT_BYTES;
+use svga_decode::Words;
 use svga_machine::Machine;
 
-/// A capture that was read. It keeps the bytes, at most 134,217,728, and nothing is wrong with them.
+/// A capture that was read: what its fields say, and the bytes, in which the words, places and pages stand.
 #[derive(Drop)]
-pub struct Capture {
-    bytes: Vec<u8>,
+pub struct Capture<'a> {
+    bytes: &'a [u8],
+    fields: Fields,
 }
 
-impl Model for Capture {
-    ghost use Rattle.std.specs.Prelude.{◌≡◌, ◌≤◌, None, length};
+impl<'a> Model for Capture<'a> {
+    ghost use Rattle.svga_capture.specs.Fields.{AreFields};
     ghost use Rattle.svga_capture.specs.Held.{coded_capture};
-    ghost use Rattle.svga_model.specs.Captures.{Capture as Held, flaw_in, held};
+    ghost use Rattle.svga_model.specs.Captures.{Capture as Held, held};
 
     ghost Value = { Held };
 
     ghost coded = { coded_capture };
 
-    ghost view = { λ c. held c.bytes.items };
+    ghost view = { λ c. held c.bytes.now };
 
-    ghost invariant = { λ c. (flaw_in c.bytes.items ≡ None) × (length c.bytes.items ≤ 134217728) };
+    ghost invariant = { λ c. AreFields c.bytes.now c.fields };
 }
 
-/// Reads a capture: what the bytes hold, or the first field that is wrong, or where bytes follow the last. Memory is
-/// taken only for a capture: a copy of its bytes.
-pub fn read_capture(alloc: Global, bytes: &[u8]) -> Result<Capture, CaptureFault>
-    requires { length bytes.now ≤ 134217728 }
+/// Reads a capture: what the bytes hold, or the first field that is wrong, or where bytes follow the last.
+/// The answer is never `Memory`: a capture borrows its bytes.
+pub fn read_capture(bytes: &[u8]) -> Result<Capture<'_>, CaptureFault>
+    requires { length bytes.now ≤ MAX_INPUT_BYTES }
     ensures { IsAnswer (capture_of bytes.now) result }
 {
-    match judge(bytes) {
-        Err(wrong) => Err(CaptureFault::Byte {
-            place: wrong.place,
-            cause: wrong.cause,
-        }),
-        Ok(()) => match bytes.to_vec(alloc) {
-            Ok(bytes) => Ok(Capture { bytes }),
-            Err(_) => Err(CaptureFault::Memory),
-        },
+    match read_fields(bytes) {
+        Ok(fields) => Ok(Capture { bytes, fields }),
+        Err((place, cause)) => Err(CaptureFault::Byte { place, cause }),
     }
 }
 
-/// What is wrong with the bytes.
-fn judge(bytes: &[u8]) -> Result<(), Wrong>
-    requires { length bytes.now ≤ 134217728 }
-    ensures { result_err result ≡ told (flaw_in bytes.now) }
-{
-    judge_header(bytes)?;
-    judge_fifo(bytes)?;
-    let pages = judge_regions(bytes)?;
-    let end = judge_pages(bytes, pages)?;
-    holds(end as usize == bytes.len(), end, CaptureCause::Long)
-}
+/// The words that wait are of 32 bits, since a slice's bytes are of 8.
+fn words_fit(bytes: &[u8])
+    ensures { AreWords (waiting_words bytes.now) }
+{}
 
-/// The word of the FIFO's memory at byte offset `offset` of it.
-fn fifo_word(bytes: &[u8], offset: u32) -> u32
-    requires few { length bytes.now ≤ 134217728 }
-    requires there { 36 + offset + 4 ≤ length bytes.now }
-    ensures { result ≡ little_word bytes.now (36 + offset) }
-{
-    word(bytes, 36 + offset)
-}
-
-/// How many words wait in the ring of a capture.
-fn waiting_words(bytes: &[u8]) -> u32
-    requires few { length bytes.now ≤ 134217728 }
-    requires good { flaw_in bytes.now ≡ None }
-    ensures { result ≡ waiting (min_in bytes.now) (ring_end bytes.now) (next_in bytes.now) (stop_in bytes.now) / 4 }
-{
-    let next = fifo_word(bytes, 8);
-    let stop = fifo_word(bytes, 12);
-    if stop <= next {
-        (next - stop) / 4
-    } else {
-        (word(bytes, 8) - stop + (next - fifo_word(bytes, 0))) / 4
-    }
-}
-
-/// Word `i` of those that wait in the ring of a capture.
-fn waiting_word(bytes: &[u8], i: u32) -> u32
-    requires few { length bytes.now ≤ 134217728 }
-    requires good { flaw_in bytes.now ≡ None }
-    requires waits { i < waiting (min_in bytes.now) (ring_end bytes.now) (next_in bytes.now) (stop_in bytes.now) / 4 }
-    ensures { result ≡ little_word bytes.now (36 + address (min_in bytes.now) (dwords_between (min_in bytes.now) (ring_end bytes.now)) (dwords_between (min_in bytes.now) (stop_in bytes.now) + i)) }
-{
-    let min = fifo_word(bytes, 0);
-    let max = word(bytes, 8);
-    let offset = fifo_word(bytes, 12) + 4 * i;
-    fifo_word(
-        bytes,
-        if offset < max {
-            offset
-        } else {
-            offset - (max - min)
-        },
-    )
-}
-
-/// The fence of a capture: 0 where MIN is at most 24, so that word 6 isn't below it.
-pub(crate) fn opening_fence(bytes: &[u8]) -> u32
-    requires few { length bytes.now ≤ 134217728 }
-    requires good { flaw_in bytes.now ≡ None }
-    ensures { result ≡ fence_in bytes.now }
-{
-    if fifo_word(bytes, 0) > 24 {
-        fifo_word(bytes, 24)
-    } else {
-        0
-    }
-}
-
-/// How many pixels all screens of a capture may have.
-fn pixel_budget(bytes: &[u8]) -> u32
-    requires good { flaw_in bytes.now ≡ None }
-    ensures { result ≡ (limits_in bytes.now).budget }
-{
-    word(bytes, 24)
-}
-
-impl Capture {
+impl<'a> Capture<'a> {
     /// A machine and pages in the state before the words.
     pub fn opening(&self, alloc: Global) -> Result<(Machine, MemPages), AllocError>
         ensures opened { IfOk result (λ opened. state_with opened.0 opened.1 ≡ self.now.opening) }
@@ -148,16 +66,18 @@ impl Capture {
         // No chain is begun on the machine.
         ensures chain { IfOk result (λ opened. opened.0.chain ≡ None) }
     {
-        opening_of(alloc, &self.bytes)
+        opening_of(alloc, self.bytes, &self.fields)
     }
 
     /// How many words wait from STOP to NEXT_CMD.
     pub fn word_count(&self) -> u32
         ensures count { result ≡ length self.now.words }
+        ensures numbers { AreWords self.now.words }
         // Whoever asks for the words learns that they are those of a capture.
         ensures held { (bytes : List ℕ) × (capture_of bytes ≡ Ok self.now) }
     {
-        waiting_words(&self.bytes)
+        words_fit(self.bytes);
+        self.fields.ring.word_count()
     }
 
     /// Word `i` of them, round the ring.
@@ -165,20 +85,49 @@ impl Capture {
         requires { i < length self.now.words }
         ensures { result ≡ slice_index self.now.words i }
     {
-        waiting_word(&self.bytes, i)
+        word(self.bytes, FIFO_AT + self.fields.ring.offset(i))
     }
 
     /// The fence before the words.
     pub fn fence(&self) -> u32
         ensures { result ≡ self.now.opening.kept.fence }
     {
-        opening_fence(&self.bytes)
+        self.fields.fence
     }
 
     /// How many pixels all screens may have.
     pub fn budget(&self) -> u32
         ensures { result ≡ self.now.limits.budget }
     {
-        pixel_budget(&self.bytes)
+        self.fields.limits.budget
+    }
+}
+
+/// The words that wait, read where they stand. They may go round the ring, so a command's are gathered.
+impl Words for Capture<'_> {
+    ghost use Rattle.svga_cmd.specs.declared.constants.TheConstants.{MAX_COMMAND_WORDS};
+
+    ghost words = { λ capture. capture.words };
+
+    ghost wanted = { MAX_COMMAND_WORDS };
+
+    fn count(&self) -> u32 {
+        self.word_count()
+    }
+
+    fn word(&self, i: u32) -> u32 {
+        Capture::word(self, i)
+    }
+
+    fn lent(&self, _first: u32, _count: u32) -> Option<&[u32]> {
+        None
+    }
+
+    fn gather(&self, first: u32, count: u32, room: &mut [u32]) {
+        // Its contract says that the words are fewer than 2^32, so that their numbers are of 32 bits.
+        let _ = self.word_count();
+        for k in 0..count {
+            room[k as usize] = Capture::word(self, first + k);
+        }
     }
 }

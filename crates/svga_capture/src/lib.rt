@@ -6,16 +6,19 @@
 mod capture;
 mod fault;
 mod field;
-mod fifo;
+mod fields;
 mod header;
+mod layout;
 mod opening;
 mod pages;
 mod regions;
 mod replaying;
+mod ring;
 
 pub use capture::{Capture, read_capture};
-pub use fault::{CaptureCause, CaptureFault};
-pub use replaying::{ReplayEnd, Replayed, replay};
+pub use fault::CaptureFault;
+pub use replaying::{Replayed, replay};
+pub use svga_cmd::{CaptureCause, Cause, ReplayEnd};
 
 #[cfg(test)]
 mod tests;

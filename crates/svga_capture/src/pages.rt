@@ -1,55 +1,61 @@
 //! The pages' records.
-ghost use Rattle.std.specs.Prelude.{◌≡◌, ◌+◌, ◌≤◌, ◌∷◌, IfOk, None, [], length};
+ghost use Rattle.std.specs.Prelude.{◌≡◌, ◌+◌, ◌*◌, ◌≤◌, ◌∷◌, IfOk, None, [], length};
 ghost use Rattle.std.specs.Result.{result_err};
-ghost use Rattle.svga_capture.specs.Judged.{told};
 ghost use Rattle.svga_cmd.specs.Limits.{AreLimits};
-ghost use Rattle.svga_model.specs.CaptureFields.{capture_end, first_flaw, header_fields, is_key, key_of_word, ordered_field, page_fields, pages_at};
+ghost use Rattle.svga_cmd.specs.Pages.{is_key};
+ghost use Rattle.svga_model.specs.CaptureFields.{capture_end, first_flaw, key_of_word, limits_in, ordered_field, page_count, page_fields, pages_at};
 ghost use Rattle.svga_model.specs.Walks.{little_word};
 
-use crate::fault::{CaptureCause, Wrong};
-use crate::field::{comes_after, holds, number, there, word};
-use crate::header::limits_of;
-use svga_cmd::Limits;
+use crate::fault::Wrong;
+use crate::field::{comes_after, holds, number, there};
+use crate::fields::Records;
+use crate::layout::PAGE_OFFSET;
+use svga_cmd::constants::{FRAME_KEY, MAX_INPUT_BYTES, PAGE_RECORD_SIZE, PAGE_SIZE};
+use svga_cmd::{CaptureCause, Limits};
 
-/// How many bytes a page's record has: its key's word, and the page's.
-const RECORD_SIZE: u32 = 4100;
+/// The byte at which record `j` of these begins; that of record `count` is the byte behind them.
+pub(crate) fn page_record(pages: &Records, j: u32) -> u32
+    requires { pages.now.at + PAGE_RECORD_SIZE * j ≤ MAX_INPUT_BYTES }
+    ensures { result ≡ pages.now.at + PAGE_RECORD_SIZE * j }
+{
+    pages.at + PAGE_RECORD_SIZE * j
+}
 
-/// What is wrong with the pages' records, which begin at byte `at`, where nothing is wrong with the header; or the
-/// byte at which they end.
-pub(crate) fn judge_pages(bytes: &[u8], at: u32) -> Result<u32, Wrong>
-    requires few { length bytes.now ≤ 134217728 }
-    requires header { first_flaw bytes.now (header_fields bytes.now) ≡ None }
-    requires begin { at ≡ pages_at bytes.now }
-    requires within { at ≤ length bytes.now }
-    ensures wrong { result_err result ≡ told (first_flaw bytes.now (page_fields bytes.now)) }
+/// What is wrong with these records, or the byte behind them.
+pub(crate) fn judge_pages(bytes: &[u8], pages: &Records, limits: &Limits) -> Result<u32, Wrong>
+    requires few { length bytes.now ≤ MAX_INPUT_BYTES }
+    requires begin { pages.now.at ≡ pages_at bytes.now }
+    requires within { pages.now.at ≤ length bytes.now }
+    requires count { pages.now.count ≡ page_count bytes.now }
+    requires allowed { AreLimits limits.now }
+    requires limits { limits.now ≡ limits_in bytes.now }
+    ensures wrong { result_err result ≡ first_flaw bytes.now (page_fields bytes.now) }
     ensures end { IfOk result (λ end. end ≡ capture_end bytes.now) }
     ensures after { IfOk result (λ end. end ≤ length bytes.now) }
 {
-    let limits = limits_of(bytes);
-    let record_count = word(bytes, 32);
-    let mut at = at;
     let mut last = None;
-    for _ in 0..record_count {
-        last = Some(judge_record(bytes, &limits, at, last)?);
-        at += RECORD_SIZE;
+    for j in 0..pages.count {
+        last = Some(judge_record(bytes, limits, page_record(pages, j), last)?);
     }
-    Ok(at)
+    Ok(page_record(pages, pages.count))
 }
 
-/// What is wrong with the record at byte `at`, which follows one with the key's word `last`, if it follows any; or its
-/// own key's word.
+/// The key's word of the record at byte `at`, or what is wrong with the record. It follows one with the
+/// key's word `last`, if it follows any.
 fn judge_record(bytes: &[u8], limits: &Limits, at: u32, last: Option<u32>) -> Result<u32, Wrong>
-    requires few { length bytes.now ≤ 134217728 }
-    requires limits { AreLimits limits.now }
+    requires few { length bytes.now ≤ MAX_INPUT_BYTES }
+    requires allowed { AreLimits limits.now }
     requires within { at ≤ length bytes.now }
-    ensures wrong { result_err result ≡ told (first_flaw bytes.now (ordered_field bytes.now at last (λ w. is_key limits.now (key_of_word w)) ∷ record { at = at + 4; size = 4096; breaks = None } ∷ [])) }
+    ensures wrong { result_err result ≡ first_flaw bytes.now (
+        ordered_field bytes.now at last (λ w. is_key limits.now (key_of_word w))
+        ∷ record { at = at + PAGE_OFFSET; size = PAGE_SIZE; breaks = None } ∷ []) }
     ensures key { IfOk result (λ key. key ≡ little_word bytes.now at) }
-    ensures after { IfOk result (λ key. at + 4100 ≤ length bytes.now) }
+    ensures after { IfOk result (λ key. at + PAGE_RECORD_SIZE ≤ length bytes.now) }
 {
     let key = number(bytes, at)?;
     holds(is_key_word(limits, key), at, CaptureCause::Number)?;
     holds(comes_after(last, key), at, CaptureCause::Order)?;
-    there(bytes, at + 4, 4096)?;
+    there(bytes, at + PAGE_OFFSET, PAGE_SIZE as u32)?;
     Ok(key)
 }
 
@@ -58,7 +64,7 @@ fn is_key_word(limits: &Limits, word: u32) -> bool
     requires { AreLimits limits.now }
     ensures { result ≡ is_key limits.now (key_of_word word) }
 {
-    match word.checked_sub(1 << 31) {
+    match word.checked_sub(FRAME_KEY) {
         None => word < limits.pages,
         Some(frame) => frame < limits.frame_pages(),
     }

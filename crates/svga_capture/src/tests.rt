@@ -1,11 +1,11 @@
 //! Captures by worked cases.
-use crate::{Capture, CaptureCause, CaptureFault, ReplayEnd, read_capture, replay};
+use crate::{Capture, CaptureCause, CaptureFault, Cause, ReplayEnd, read_capture, replay};
 use std::alloc::{AllocError, Global};
 use std::test::Fail;
 use svga_cmd::{Fault, PageKey, PageStore};
-use svga_decode::Cause;
 
-/// One guest page, a framebuffer and a budget of one pixel, no regions and no pages, and an empty ring of one word.
+/// One guest page, a framebuffer and a budget of one pixel, no regions and no pages, and an empty ring of
+/// one word.
 const SMALL: [u32; 14] = [0x46475653, 1, 20, 1, 1, 1, 1, 0, 0, 16, 20, 16, 16, 0];
 
 /// The number of the word that says how many regions, and how many pages, have records.
@@ -57,15 +57,15 @@ fn small_pages(alloc: Global, keys: &[u32]) -> Result<Vec<u8>, AllocError> {
     Ok(bytes)
 }
 
-fn read(alloc: Global, bytes: &[u8]) -> Result<Capture, CaptureFault> {
+fn read(bytes: &[u8]) -> Result<Capture<'_>, CaptureFault> {
     if bytes.len() > 134217728 {
         return Err(CaptureFault::Memory);
     }
-    read_capture(alloc, bytes)
+    read_capture(bytes)
 }
 
-fn told(alloc: Global, bytes: &[u8]) -> Result<(), CaptureFault> {
-    match read(alloc, bytes) {
+fn told(bytes: &[u8]) -> Result<(), CaptureFault> {
+    match read(bytes) {
         Ok(_) => Ok(()),
         Err(fault) => Err(fault),
     }
@@ -78,7 +78,7 @@ fn wrong(place: u32, cause: CaptureCause) -> Result<(), CaptureFault> {
 #[test]
 fn words_of_header_and_fifo(rt: HostRuntime) -> Result<(), Fail> {
     let alloc = rt.alloc();
-    assert_eq!(rt; told(alloc, &bytes_from(alloc, &SMALL)?), Ok(()));
+    assert_eq!(rt; told(&bytes_from(alloc, &SMALL)?), Ok(()));
     for (k, word, cause) in [
         (0u8, 0x00475653, CaptureCause::Magic),
         (1, 2, CaptureCause::Version),
@@ -106,11 +106,7 @@ fn words_of_header_and_fifo(rt: HostRuntime) -> Result<(), Fail> {
     ] {
         let bytes = small_with(alloc, usize::from(k), word)?;
         let place = 4 * u32::from(k);
-        assert_eq!(rt;
-            told(alloc, &bytes),
-            wrong(place, cause),
-            "word {k} is {word}"
-        );
+        assert_eq!(rt; told(&bytes), wrong(place, cause), "word {k} is {word}");
     }
     Ok(())
 }
@@ -122,20 +118,20 @@ fn bytes_that_end_early_or_late(rt: HostRuntime) -> Result<(), Fail> {
     for length in 0..72usize {
         let cut = &whole[..length.min(whole.len())];
         assert_eq!(rt;
-            told(alloc, cut),
+            told(cut),
             wrong(length as u32, CaptureCause::Short),
             "{length}"
         );
     }
-    assert_eq!(rt; told(alloc, &whole), Ok(()));
+    assert_eq!(rt; told(&whole), Ok(()));
     let longer = small_and(alloc, REGIONS, 1, &[5, 2, 0, 0xFFFFFFFF, 0])?;
-    assert_eq!(rt; told(alloc, &longer), wrong(72, CaptureCause::Long));
+    assert_eq!(rt; told(&longer), wrong(72, CaptureCause::Long));
     let mut page = small_pages(alloc, &[0])?;
-    assert_eq!(rt; told(alloc, &page), Ok(()));
+    assert_eq!(rt; told(&page), Ok(()));
     page.push(0)?;
-    assert_eq!(rt; told(alloc, &page), wrong(4156, CaptureCause::Long));
+    assert_eq!(rt; told(&page), wrong(4156, CaptureCause::Long));
     page.truncate(4155);
-    assert_eq!(rt; told(alloc, &page), wrong(4155, CaptureCause::Short));
+    assert_eq!(rt; told(&page), wrong(4155, CaptureCause::Short));
     Ok(())
 }
 
@@ -164,7 +160,7 @@ fn records_of_regions(rt: HostRuntime) -> Result<(), Fail> {
         ),
     ] {
         let bytes = small_and(alloc, REGIONS, count, words)?;
-        assert_eq!(rt; told(alloc, &bytes), answer, "{words:?}");
+        assert_eq!(rt; told(&bytes), answer, "{words:?}");
     }
     Ok(())
 }
@@ -183,13 +179,13 @@ fn records_of_pages(rt: HostRuntime) -> Result<(), Fail> {
         (&[0x80000000, 1][..], wrong(4156, CaptureCause::Number)),
     ] {
         let bytes = small_pages(alloc, keys)?;
-        assert_eq!(rt; told(alloc, &bytes), answer, "{keys:?}");
+        assert_eq!(rt; told(&bytes), answer, "{keys:?}");
     }
     Ok(())
 }
 
-/// Two guest pages and a framebuffer of one: a key of its second page, which there isn't. And a MIN that is wrong is told
-/// though the bytes end behind it.
+/// Two guest pages and a framebuffer of one: a key of its second page, which there isn't. And a MIN that is
+/// wrong is told though the bytes end behind it.
 #[test]
 fn keys_and_cut_rings(rt: HostRuntime) -> Result<(), Fail> {
     let alloc = rt.alloc();
@@ -198,10 +194,10 @@ fn keys_and_cut_rings(rt: HostRuntime) -> Result<(), Fail> {
     words[PAGES] = 1;
     let mut bytes = bytes_from(alloc, &words)?;
     push_words(&mut bytes, &[0x80000001])?;
-    assert_eq!(rt; told(alloc, &bytes), wrong(56, CaptureCause::Number));
+    assert_eq!(rt; told(&bytes), wrong(56, CaptureCause::Number));
     let mut cut = bytes_from(alloc, &SMALL[..9])?;
     push_words(&mut cut, &[12])?;
-    assert_eq!(rt; told(alloc, &cut), wrong(36, CaptureCause::Number));
+    assert_eq!(rt; told(&cut), wrong(36, CaptureCause::Number));
     Ok(())
 }
 
@@ -210,7 +206,7 @@ fn keys_and_cut_rings(rt: HostRuntime) -> Result<(), Fail> {
 fn regions_that_open(rt: HostRuntime) -> Result<(), Fail> {
     let alloc = rt.alloc();
     let bytes = small_and(alloc, REGIONS, 1, &[5, 2, 0xFFFFFFFF, 0])?;
-    let Ok(capture) = read(alloc, &bytes) else {
+    let Ok(capture) = read(&bytes) else {
         return Err(AllocError.into());
     };
     let (machine, _pages) = capture.opening(alloc)?;
@@ -223,7 +219,7 @@ fn regions_that_open(rt: HostRuntime) -> Result<(), Fail> {
 }
 
 /// The words that wait, at most two of them, and how many they are.
-fn waiting(capture: &Capture) -> (u32, Option<u32>, Option<u32>) {
+fn waiting(capture: &Capture<'_>) -> (u32, Option<u32>, Option<u32>) {
     let count = capture.word_count();
     let first = if 0 < count {
         Some(capture.word(0))
@@ -247,13 +243,14 @@ fn small_ring(alloc: Global, max: u32, ring: &[u32]) -> Result<Vec<u8>, AllocErr
     Ok(bytes)
 }
 
-/// What a capture holds with this ring, up to byte `max`, and no records: its words, its fence and its budget.
+/// What a capture holds with this ring, up to byte `max`, and no records: its words, its fence and its
+/// budget.
 fn held(
     alloc: Global,
     max: u32,
     ring: &[u32],
 ) -> Result<Option<(u32, Option<u32>, Option<u32>, u32, u32)>, AllocError> {
-    match read(alloc, &small_ring(alloc, max, ring)?) {
+    match read(&small_ring(alloc, max, ring)?) {
         Ok(capture) => {
             let (count, first, second) = waiting(&capture);
             Ok(Some((count, first, second, capture.fence(), capture.budget())))
@@ -286,7 +283,7 @@ fn words_and_fences(rt: HostRuntime) -> Result<(), Fail> {
 
 /// How the replay of these bytes ends: its commands, its fence and its end.
 fn replayed(alloc: Global, bytes: &[u8]) -> Result<Option<(u32, u32, ReplayEnd)>, AllocError> {
-    let Ok(capture) = read(alloc, bytes) else {
+    let Ok(capture) = read(bytes) else {
         return Ok(None);
     };
     let replayed = replay(alloc, &capture)?;
@@ -359,7 +356,12 @@ fn push_copies(bytes: &mut Vec<u8>, count: u32, byte: u8) -> Result<(), AllocErr
 }
 
 /// Whether a guest page holds nothing but this byte after a replay, if the device has the page.
-fn page_holds(alloc: Global, capture: &Capture, number: u32, byte: u8) -> Result<bool, AllocError> {
+fn page_holds(
+    alloc: Global,
+    capture: &Capture<'_>,
+    number: u32,
+    byte: u8,
+) -> Result<bool, AllocError> {
     let replayed = replay(alloc, capture)?;
     if number < replayed.machine.limits().pages {
         let page = replayed.pages.page(PageKey::Guest(number));
@@ -375,7 +377,7 @@ fn replay_round_the_end(rt: HostRuntime) -> Result<(), Fail> {
     let bytes = fences_round_the_end(alloc)?;
     let answer = Some((2, 7, ReplayEnd::Whole));
     assert_eq!(rt; replayed(alloc, &bytes)?, answer);
-    let Ok(capture) = read(alloc, &bytes) else {
+    let Ok(capture) = read(&bytes) else {
         return Err(AllocError.into());
     };
     assert!(rt; page_holds(alloc, &capture, 3, 0xEE)?);

@@ -5,6 +5,7 @@ use Rattle.std.proofs.lemmas.Grind.{common_steps, elements}
 use Rattle.std.proofs.lemmas.List.{map-set, length-map}
 use Rattle.std.specs.FinMap as map
 use Rattle.std.specs.Ordering.{eq_by_cmp, is_eq, nat_cmp}
+use Rattle.svga_cmd.specs.declared.constants.TheConstants.{PAGE_SIZE}
 use Rattle.svga_cmd.specs.declared.page.PageKey.{PageKey}
 use Rattle.svga_cmd.specs.declared.page.PageKey.TheVariants.{Guest, Frame}
 use Rattle.svga_cmd.specs.Limits.{frame_page_count}
@@ -117,8 +118,8 @@ chosen_alone true bytes = refl
 chosen_alone false bytes = tt
 
 -- the pages of a device in a row, all of them zeros
-pub zero_memory : (l : Limits) → IsZeroMemoryOf l (memory_of l.pages (replicate (l.pages + frame_page_count l) (replicate 4096 0)))
-zero_memory l = let zeros : List ℕ = replicate 4096 0 in record {
+pub zero_memory : (l : Limits) → IsZeroMemoryOf l (memory_of l.pages (replicate (l.pages + frame_page_count l) (replicate PAGE_SIZE 0)))
+zero_memory l = let zeros : List ℕ = replicate PAGE_SIZE 0 in record {
   keys = λ key. subst (λ page. IsSome page ↔ IsKey l key) (sym (page_at-replicate l.pages (frame_page_count l) zeros key))
       (λ some. (has_key l key).0 ((is_chosen _ zeros).0 some), λ is. (is_chosen _ zeros).1 ((has_key l key).1 is));
   zeros = λ key. subst (λ page. IfSome page (λ bytes. bytes ≡ zeros)) (sym (page_at-replicate l.pages (frame_page_count l) zeros key)) (chosen_alone _ zeros);

@@ -5,12 +5,13 @@ use Rattle.std.proofs.lemmas.List.Elements.{All-replicate}
 use Rattle.svga_cmd.proofs.KeyLaws.{keys_total, keys_exact}
 use Rattle.svga_cmd.proofs.Maps.{same_gets}
 use Rattle.svga_cmd.specs.Pages.{IsMemoryOf, IsPage, IsZeroMemoryOf, Memory}
+use Rattle.svga_cmd.specs.declared.constants.TheConstants.{PAGE_SIZE}
 use Rattle.svga_cmd.specs.declared.limits.Limits.{Limits}
 
-all_zeros : IsPage (replicate 4096 0)
-all_zeros = record { length_is = length-replicate {A = ℕ} 4096 0; each = All-replicate (λ byte. byte < 256) 4096 0 (omega arith) }
+all_zeros : IsPage (replicate PAGE_SIZE 0)
+all_zeros = record { length_is = length-replicate {A = ℕ} PAGE_SIZE 0; each = All-replicate (λ byte. byte < 256) PAGE_SIZE 0 (omega arith) }
 
-is_page : (page : Option (List ℕ)) → IfSome page (λ bytes. bytes ≡ replicate 4096 0) → IfSome page IsPage
+is_page : (page : Option (List ℕ)) → IfSome page (λ bytes. bytes ≡ replicate PAGE_SIZE 0) → IfSome page IsPage
 is_page None is = tt
 is_page (Some bytes) is = subst IsPage (sym is) all_zeros
 
@@ -26,4 +27,4 @@ one_page bytes (Some x) (Some y) there back is also = λ i. Some ((is ∙ sym al
 
 -- there is one for each device
 pub one_zero_memory : (l : Limits) (m n : Memory) → IsZeroMemoryOf l m → IsZeroMemoryOf l n → m ≡ n
-one_zero_memory l m n a b = same_gets keys_total keys_exact m n (λ key. one_page (replicate 4096 0) _ _ (λ h. (b.keys key).1 ((a.keys key).0 h)) (λ h. (a.keys key).1 ((b.keys key).0 h)) (a.zeros key) (b.zeros key))
+one_zero_memory l m n a b = same_gets keys_total keys_exact m n (λ key. one_page (replicate PAGE_SIZE 0) _ _ (λ h. (b.keys key).1 ((a.keys key).0 h)) (λ h. (a.keys key).1 ((b.keys key).0 h)) (a.zeros key) (b.zeros key))

@@ -1,5 +1,5 @@
--- A lent command means the command with the same fields, whose list is the one that is lent. What is said of a
--- `CommandRef` is said of that command.
+-- A lent command means the command with the same fields, whose list is the one that is lent. What is said of
+-- a `CommandRef` is said of that command.
 use Rattle.svga_cmd.specs.declared.command.Command.{Command}
 use Rattle.svga_cmd.specs.declared.command.Command.TheVariants.{Update, Fence, DefineScreen, DestroyScreen, DefineGmrfb, BlitToScreen, BlitToGmrfb, DefineGmr2, RemapGmr2}
 use Rattle.svga_cmd.specs.declared.command.CommandRef.{CommandRef}

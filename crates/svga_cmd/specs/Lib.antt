@@ -2,9 +2,9 @@ pub mod Fault
 pub mod Lent
 pub mod Limits
 pub mod Pages
-pub mod Reading
 pub mod Sessions
 pub mod Slots
+pub mod Spelled
 pub mod Spelling
 pub mod WellFormed
 pub mod Words

@@ -1,5 +1,6 @@
 -- How large a device may be.
-use Rattle.std.specs.Prelude.{ℕ, ◌+◌, ◌*◌, ◌/◌, ◌≤◌}
+use Rattle.std.specs.Prelude.{ℕ, ◌+◌, ◌-◌, ◌*◌, ◌/◌, ◌≤◌}
+use Rattle.svga_cmd.specs.declared.constants.TheConstants.{MAX_FRAME_HEIGHT, MAX_FRAME_WIDTH, MAX_GUEST_PAGES, MAX_PIXEL_BUDGET, PAGE_SIZE}
 use Rattle.svga_cmd.specs.declared.limits.Limits.{Limits}
 
 -- lowest and highest, both allowed
@@ -8,11 +9,11 @@ pub record IsBetween (low high n : ℕ) : Type 0 where
   pub most : n ≤ high
 
 pub record AreLimits (l : Limits) : Type 0 where
-  pub pages : IsBetween 1 16384 l.pages
-  pub gfb_width : IsBetween 1 4096 l.gfb_width
-  pub gfb_height : IsBetween 1 2048 l.gfb_height
-  pub budget : IsBetween 1 33554432 l.budget
+  pub pages : IsBetween 1 MAX_GUEST_PAGES l.pages
+  pub gfb_width : IsBetween 1 MAX_FRAME_WIDTH l.gfb_width
+  pub gfb_height : IsBetween 1 MAX_FRAME_HEIGHT l.gfb_height
+  pub budget : IsBetween 1 MAX_PIXEL_BUDGET l.budget
 
--- the guest framebuffer's bytes in pages of 4,096, rounded up
+-- the guest framebuffer's bytes in pages, rounded up
 abbrev pub frame_page_count : Limits → ℕ
-frame_page_count l = (4 * l.gfb_width * l.gfb_height + 4095) / 4096
+frame_page_count l = (4 * l.gfb_width * l.gfb_height + (PAGE_SIZE - 1)) / PAGE_SIZE

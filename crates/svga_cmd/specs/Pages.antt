@@ -1,8 +1,9 @@
 -- Page keys in order, and memories: the bytes of pages by their keys.
-use Rattle.std.specs.Prelude.{◌≡◌, ◌↔◌, ℕ, ◌<◌, All, List, length, replicate, Option, IfSome, IsSome}
+use Rattle.std.specs.Prelude.{◌≡◌, ◌↔◌, ℕ, ◌<◌, Bool, nat_lt, All, List, length, replicate, Option, IfSome, IsSome}
 use Rattle.std.specs.FinMap as map
 use Rattle.std.specs.Ordering.{nat_cmp, ordering_then}
 use Rattle.std.specs.declared.cmp.Ordering.{Ordering}
+use Rattle.svga_cmd.specs.declared.constants.TheConstants.{PAGE_SIZE}
 use Rattle.svga_cmd.specs.declared.limits.Limits.{Limits}
 use Rattle.svga_cmd.specs.declared.page.PageKey.{PageKey}
 use Rattle.svga_cmd.specs.declared.page.PageKey.TheVariants.{Guest, Frame}
@@ -26,6 +27,11 @@ abbrev pub IsKey : Limits → PageKey → Type 0
 IsKey l (Guest p) = p < l.pages
 IsKey l (Frame g) = g < frame_page_count l
 
+-- the same as a test
+abbrev pub is_key : Limits → PageKey → Bool
+is_key l (Guest p) = nat_lt p l.pages
+is_key l (Frame g) = nat_lt g (frame_page_count l)
+
 -- the bytes of pages, by their keys
 abbrev pub Memory : Type 0
 Memory = map.FinMap key_cmp (List ℕ)
@@ -38,7 +44,7 @@ HasPage m key = IsSome (page_at m key)
 
 -- 4,096 bytes
 pub record IsPage (bytes : List ℕ) : Type 0 where
-  pub length_is : length bytes ≡ 4096
+  pub length_is : length bytes ≡ PAGE_SIZE
   pub each : All (λ byte. byte < 256) bytes
 
 -- a memory of a device has a page for each of its keys, and no other
@@ -49,4 +55,4 @@ pub record IsMemoryOf (l : Limits) (m : Memory) : Type 0 where
 -- so it is where no byte was written yet: the same keys, and only zeros
 pub record IsZeroMemoryOf (l : Limits) (m : Memory) : Type 0 where
   pub keys : (key : PageKey) → HasPage m key ↔ IsKey l key
-  pub zeros : (key : PageKey) → IfSome (page_at m key) (λ bytes. bytes ≡ replicate 4096 0)
+  pub zeros : (key : PageKey) → IfSome (page_at m key) (λ bytes. bytes ≡ replicate PAGE_SIZE 0)

@@ -1,6 +1,6 @@
 //! Points, rectangles and the blits that they describe.
 
-/// A place, in pixels.
+/// A point, in pixels.
 #[derive(Clone, Copy, Debug, PartialEq, Eq)]
 pub struct Point {
     pub x: i32,

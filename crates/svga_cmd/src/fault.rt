@@ -2,7 +2,8 @@
 ghost use Rattle.std.specs.Prelude.{◌≡◌};
 ghost use Rattle.svga_cmd.specs.Fault.{number_of};
 
-/// Why a command or a chain is refused. The order is that of the numbers: where several stand, the first is told.
+/// Why a command or a chain is refused. The order is that of the numbers:
+/// where several stand, the first is told.
 #[derive(Clone, Copy, Debug, PartialEq, Eq, PartialOrd, Ord)]
 pub enum Fault {
     NoRegion,

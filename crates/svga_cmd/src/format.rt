@@ -2,6 +2,8 @@
 ghost use Rattle.std.specs.Prelude.{◌≡◌};
 ghost use Rattle.svga_cmd.specs.Words.{format_word};
 
+use crate::constants::{BGR24_WORD, BGRX32_WORD, RGB555_WORD, RGB565_WORD};
+
 /// A pixel format, named by its channels from the lowest byte or the highest bit on, and its bits per pixel.
 #[derive(Clone, Copy, Debug, PartialEq, Eq)]
 pub enum Format {
@@ -21,10 +23,10 @@ impl Format {
         ensures { result ≡ format_word self }
     {
         match self {
-            Format::Bgrx32 => 0x1820,
-            Format::Bgr24 => 0x1818,
-            Format::Rgb565 => 0x1010,
-            Format::Rgb555 => 0x0F10,
+            Format::Bgrx32 => BGRX32_WORD,
+            Format::Bgr24 => BGR24_WORD,
+            Format::Rgb565 => RGB565_WORD,
+            Format::Rgb555 => RGB555_WORD,
         }
     }
 }

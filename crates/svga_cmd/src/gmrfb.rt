@@ -8,8 +8,8 @@ pub struct GuestPtr {
     pub offset: u32,
 }
 
-/// The framebuffer in guest memory that blits read and write: its first pixel is at byte `offset` of `region`,
-/// and a row begins `pitch` bytes behind the one above it.
+/// The framebuffer in guest memory that blits read and write: its first pixel is at byte `offset` of
+/// `region`, and a row begins `pitch` bytes behind the one above it.
 #[derive(Clone, Copy, Debug, PartialEq, Eq)]
 pub struct Gmrfb {
     pub region: u32,

@@ -14,5 +14,6 @@ pub fn unique_spelling()
     ensures one_command { (c d : Command) (ws : List ℕ) → Spells c ws → Spells d ws → c ≡ d }
 
     // No spelling is the beginning of a longer one.
-    ensures no_proper_prefix { (c d : Command) (ws rest : List ℕ) → Spells c ws → Spells d (ws ++ rest) → rest ≡ [] }
+    ensures no_proper_prefix { (c d : Command) (ws rest : List ℕ) → Spells c ws → Spells d (ws ++ rest)
+        → rest ≡ [] }
 {}

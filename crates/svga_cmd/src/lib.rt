@@ -1,11 +1,16 @@
-//! The commands of the SVGA II FIFO as values, and the one spelling of each as words.
+//! The commands of the SVGA II FIFO as values, the one spelling of each as
+//! words, and the field's numbers by name.
 //!
-//! Every other crate speaks of commands, pages and faults by these types. Contracts see them as plain
-//! data: an enum by its variants, a struct by its fields, a list of numbers as that list.
+//! Every other crate speaks of commands, pages, faults, causes and endings by these types. Contracts see them
+//! as plain data: an enum by its variants, a struct by its fields, a list of numbers as that list.
 #![tactic(auto)]
 
 mod blit;
+mod capture_cause;
+mod cause;
 mod command;
+pub mod constants;
+mod ending;
 mod fault;
 mod format;
 mod gmrfb;
@@ -17,12 +22,16 @@ mod page_list;
 mod remap;
 mod remap_flags;
 mod screen;
+mod script_cause;
 mod session;
 mod store;
 mod word;
 
 pub use blit::{Blit, Point, Rect};
+pub use capture_cause::CaptureCause;
+pub use cause::Cause;
 pub use command::{Command, CommandRef};
+pub use ending::{Ending, ReplayEnd};
 pub use fault::Fault;
 pub use format::Format;
 pub use gmrfb::{Gmrfb, GuestPtr};
@@ -33,6 +42,7 @@ pub use page::{Page, PageKey};
 pub use page_list::PageList;
 pub use remap::{EntriesRef, RemapData};
 pub use screen::{Backing, ScreenDef};
+pub use script_cause::ScriptCause;
 pub use session::{Session, Way};
 pub use store::PageStore;
 pub use word::{encode_short, word_at, word_count};

@@ -2,6 +2,10 @@
 ghost use Rattle.std.specs.Prelude.{◌≡◌, ◌↔◌, IsTrue};
 ghost use Rattle.svga_cmd.specs.Limits.{AreLimits, IsBetween, frame_page_count};
 
+use crate::constants::{
+    MAX_FRAME_HEIGHT, MAX_FRAME_WIDTH, MAX_GUEST_PAGES, MAX_PIXEL_BUDGET, PAGE_SIZE,
+};
+
 /// How large a device is: its pages of guest memory, the guest framebuffer's sides, and how many pixels all
 /// screens together may have.
 #[derive(Clone, Copy, Debug, PartialEq, Eq)]
@@ -18,17 +22,17 @@ impl Limits {
         requires { AreLimits self.now }
         ensures { result ≡ frame_page_count self.now }
     {
-        (4 * self.gfb_width * self.gfb_height).div_ceil(4096)
+        (4 * self.gfb_width * self.gfb_height).div_ceil(PAGE_SIZE as u32)
     }
 
     /// Whether a device may be so large.
     pub(crate) fn are_allowed(&self) -> bool
         ensures { IsTrue result ↔ AreLimits self.now }
     {
-        is_between(1, 16384, self.pages)
-            && is_between(1, 4096, self.gfb_width)
-            && is_between(1, 2048, self.gfb_height)
-            && is_between(1, 33554432, self.budget)
+        is_between(1, MAX_GUEST_PAGES, self.pages)
+            && is_between(1, MAX_FRAME_WIDTH, self.gfb_width)
+            && is_between(1, MAX_FRAME_HEIGHT, self.gfb_height)
+            && is_between(1, MAX_PIXEL_BUDGET, self.budget)
     }
 }
 

@@ -6,6 +6,7 @@ ghost use Rattle.svga_cmd.specs.Pages.{HasPage, IsZeroMemoryOf, Memory, page_at}
 ghost use Rattle.svga_cmd.specs.Slots.{slot_of};
 ghost use Rattle.svga_cmd.specs.declared.page.PageKey.{PageKey};
 
+use crate::constants::PAGE_SIZE;
 use crate::limits::Limits;
 use crate::page::{Page, PageKey};
 use crate::store::PageStore;
@@ -75,7 +76,7 @@ impl PageStore for MemPages {
 }
 
 fn zero_pages(alloc: Global, count: usize) -> Result<Vec<Page>, AllocError>
-    ensures { IfOk result (λ pages. pages.items ≡ replicate count (replicate 4096 0)) }
+    ensures { IfOk result (λ pages. pages.items ≡ replicate count (replicate PAGE_SIZE 0)) }
 {
     let mut pages = Vec::with_capacity(alloc, count)?;
     for _ in 0..count {

@@ -3,6 +3,7 @@ ghost use Rattle.std.specs.Prelude.{◌≡◌, ℕ, List, IfOk, length, replicat
 ghost use Rattle.std.specs.Borrow.{sem, Lends, Array, u8 as byte};
 ghost use Rattle.svga_cmd.specs.contracts.page.Page.{the_row};
 
+use crate::constants::PAGE_SIZE;
 use std::alloc::{AllocError, Global};
 use std::marker::Model;
 
@@ -16,7 +17,7 @@ pub enum PageKey {
 /// The bytes of a page. It lies on the heap, so that moving it moves no byte.
 #[derive(Debug, Drop)]
 pub struct Page {
-    bytes: Box<[u8; 4096]>,
+    bytes: Box<[u8; PAGE_SIZE]>,
 }
 
 impl Model for Page {
@@ -30,16 +31,16 @@ impl Model for Page {
 impl Page {
     /// A page of zeros.
     pub fn new(alloc: Global) -> Result<Page, AllocError>
-        ensures { IfOk result (λ page. page ≡ replicate 4096 0) }
+        ensures { IfOk result (λ page. page ≡ replicate PAGE_SIZE 0) }
     {
-        let bytes = Box::new(alloc, [0; 4096])?;
+        let bytes = Box::new(alloc, [0; PAGE_SIZE])?;
         Ok(Page { bytes })
     }
 
     /// The bytes.
     pub fn bytes(&self) -> &[u8]
         ensures bytes { result.now ≡ self.now }
-        ensures length { length result.now ≡ 4096 }
+        ensures length { length result.now ≡ PAGE_SIZE }
     {
         &*self.bytes
     }
@@ -49,7 +50,7 @@ impl Page {
         // What is last written through the result is the page's bytes from then on.
         ensures* writes_back { sem 𝓛 (Lends the_row (Array byte 0) self.entry result (λ bytes. bytes)) }
         ensures bytes { result.now ≡ self.old }
-        ensures length { length result.now ≡ 4096 }
+        ensures length { length result.now ≡ PAGE_SIZE }
     {
         // Read once, so that the proof knows the length of what is lent.
         let _length = self.bytes().len();

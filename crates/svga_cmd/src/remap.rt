@@ -44,9 +44,7 @@ impl RemapData {
             RemapData::Ppn32(_) => RemapFlags::empty(),
             RemapData::Ppn64(_) => RemapFlags::PPN64,
             RemapData::SinglePpn32(_) => RemapFlags::SINGLE_PPN,
-            RemapData::SinglePpn64 { low: _, high: _ } => RemapFlags::SINGLE_PPN.union(
-                RemapFlags::PPN64,
-            ),
+            RemapData::SinglePpn64 { .. } => RemapFlags::SINGLE_PPN.union(RemapFlags::PPN64),
             RemapData::ViaGmr32(_) => RemapFlags::VIA_GMR,
             RemapData::ViaGmr64(_) => RemapFlags::VIA_GMR.union(RemapFlags::PPN64),
         }

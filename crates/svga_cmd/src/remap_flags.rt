@@ -1,6 +1,10 @@
 //! The bits of a remap's flag word.
 ghost use Rattle.std.specs.Prelude.{◌≡◌, ⊤, [], ◌∷◌, codes};
+ghost use Rattle.svga_cmd.specs.declared.constants.TheConstants.{SVGA_REMAP_GMR2_PPN64, SVGA_REMAP_GMR2_SINGLE_PPN, SVGA_REMAP_GMR2_VIA_GMR};
 
+use crate::constants::{
+    SVGA_REMAP_GMR2_PPN64, SVGA_REMAP_GMR2_SINGLE_PPN, SVGA_REMAP_GMR2_VIA_GMR,
+};
 use bitflags::{Flag, Flags, bitflag_items};
 
 /// How a remap's entries are given: the bits of its flag word.
@@ -9,9 +13,9 @@ pub struct RemapFlags(u32);
 
 bitflag_items! {
     impl RemapFlags: u32 {
-        const VIA_GMR = 1;
-        const PPN64 = 2;
-        const SINGLE_PPN = 4;
+        const VIA_GMR = SVGA_REMAP_GMR2_VIA_GMR;
+        const PPN64 = SVGA_REMAP_GMR2_PPN64;
+        const SINGLE_PPN = SVGA_REMAP_GMR2_SINGLE_PPN;
     }
 }
 
@@ -20,7 +24,8 @@ impl Flags for RemapFlags {
 
     ghost exact = { ⊤ };
 
-    ghost table = { (codes "VIA_GMR", 1) ∷ (codes "PPN64", 2) ∷ (codes "SINGLE_PPN", 4) ∷ [] };
+    ghost table = { (codes "VIA_GMR", SVGA_REMAP_GMR2_VIA_GMR) ∷ (codes "PPN64", SVGA_REMAP_GMR2_PPN64)
+        ∷ (codes "SINGLE_PPN", SVGA_REMAP_GMR2_SINGLE_PPN) ∷ [] };
 
     ghost set_of = { λ flags. flags.0 };
 

@@ -2,6 +2,7 @@
 ghost use Rattle.std.specs.Prelude.{◌≡◌, ◌↔◌, IsSome, IfSome, IsTrue};
 ghost use Rattle.svga_cmd.specs.Sessions.{IsSession};
 
+use crate::constants::{MAX_FENCE, MAX_RING_END, MIN_FIRST_FENCE, MIN_RING_END};
 use crate::limits::{Limits, is_between};
 
 /// How the driver writes a command to the ring.
@@ -51,8 +52,8 @@ impl Session {
 fn is_session(ring: u32, limits: Limits, first: u32) -> bool
     ensures { IsTrue result ↔ IsSession ring limits first }
 {
-    is_between(11404, 262144, ring)
+    is_between(MIN_RING_END, MAX_RING_END, ring)
         && ring % 4 == 0
         && limits.are_allowed()
-        && is_between(1, u32::MAX, first)
+        && is_between(MIN_FIRST_FENCE, MAX_FENCE, first)
 }

@@ -1,7 +1,7 @@
 // Worked spellings, the ends of the limits, and that memory is found where there is some.
 ghost use Rattle.std.specs.Prelude.{◌≡◌};
 ghost use Rattle.svga_cmd.specs.Pages.{HasPage};
-ghost use Rattle.svga_cmd.specs.WellFormed.{IsShort, IsWellFormed};
+ghost use Rattle.svga_cmd.specs.WellFormed.{IsShortCommand, IsWellFormed};
 ghost use Rattle.svga_cmd.specs.declared.page.PageKey.{PageKey};
 
 use crate::{
@@ -30,7 +30,7 @@ fn spells(rt: &impl Abort, command: &Command, expected: &[u32])
 
 fn encodes(rt: &impl Abort, command: &Command, expected: &[u32])
     requires well_formed { IsWellFormed command.now }
-    requires short { IsShort command.now }
+    requires short { IsShortCommand command.now }
 {
     assert_eq!(rt; encode_short(command).as_slice(), expected);
     spells(rt, command, expected);
@@ -103,7 +103,7 @@ fn screens_of_both_sizes(rt: HostRuntime) {
 }
 
 #[test]
-fn blits_with_signed_places(rt: HostRuntime) {
+fn blits_with_signed_numbers(rt: HostRuntime) {
     let blit = Blit {
         point: Point { x: -1, y: 2 },
         rect: Rect {

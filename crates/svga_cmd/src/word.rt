@@ -1,11 +1,17 @@
 //! The spelling of a command, word by word.
 ghost use Rattle.std.specs.Prelude.{◌≡◌, ◌+◌, ◌∷◌, ◌≤◌, ◌<◌, length, slice_index};
 ghost use Rattle.svga_cmd.specs.Spelling.{spelling};
-ghost use Rattle.svga_cmd.specs.WellFormed.{HasEntries, IsShort, IsWellFormed};
+ghost use Rattle.svga_cmd.specs.WellFormed.{HasEntries, IsShortCommand, IsWellFormed};
 ghost use Rattle.svga_cmd.specs.Words.{blit_words, entry_words};
 
 use crate::blit::Blit;
 use crate::command::Command;
+use crate::constants::{
+    BACKED_SCREEN_SIZE, MAX_COMMAND_WORDS, MAX_ENTRY_WORDS, MAX_REMAP_PAGES, SCREEN_SIZE,
+    SVGA_CMD_BLIT_GMRFB_TO_SCREEN, SVGA_CMD_BLIT_SCREEN_TO_GMRFB, SVGA_CMD_DEFINE_GMR2,
+    SVGA_CMD_DEFINE_GMRFB, SVGA_CMD_DEFINE_SCREEN, SVGA_CMD_DESTROY_SCREEN, SVGA_CMD_FENCE,
+    SVGA_CMD_REMAP_GMR2, SVGA_CMD_UPDATE,
+};
 use crate::remap::RemapData;
 use crate::screen::ScreenDef;
 use arrayvec::ArrayVec;
@@ -15,38 +21,25 @@ use bitflags::Flags;
 pub fn word_count(command: &Command) -> u32
     requires { IsWellFormed command.now }
     ensures count { result ≡ length (spelling command.now) }
-    ensures most { result ≤ 131077 }
+    ensures most { result ≤ MAX_COMMAND_WORDS }
 {
     match command {
-        Command::Update {
-            x: _,
-            y: _,
-            width: _,
-            height: _,
-        } => 5,
-        Command::Fence { value: _ } => 2,
+        Command::Update { .. } => 5,
+        Command::Fence { .. } => 2,
         Command::DefineScreen(def) => match def.backing {
             None => 8,
             Some(_) => 12,
         },
-        Command::DestroyScreen { id: _ } => 2,
+        Command::DestroyScreen { .. } => 2,
         Command::DefineGmrfb(_) => 5,
         Command::BlitToScreen(_) => 8,
         Command::BlitToGmrfb(_) => 8,
-        Command::DefineGmr2 {
-            region: _,
-            pages: _,
-        } => 3,
-        Command::RemapGmr2 {
-            region: _,
-            offset: _,
-            pages,
-            entries,
-        } => 5 + entry_count(entries, *pages),
+        Command::DefineGmr2 { .. } => 3,
+        Command::RemapGmr2 { pages, entries, .. } => 5 + entry_count(entries, *pages),
     }
 }
 
-/// The word at place `i` of the command's spelling, from 0.
+/// The word with number `i`, from 0, of the command's spelling.
 pub fn word_at(command: &Command, i: u32) -> u32
     requires well_formed { IsWellFormed command.now }
     requires within { i < length (spelling command.now) }
@@ -59,39 +52,33 @@ pub fn word_at(command: &Command, i: u32) -> u32
             y,
             width,
             height,
-        } => [1, *x, *y, *width, *height][i],
-        Command::Fence { value } => [30, *value][i],
+        } => [SVGA_CMD_UPDATE, *x, *y, *width, *height][i],
+        Command::Fence { value } => [SVGA_CMD_FENCE, *value][i],
         Command::DefineScreen(def) => screen_word(def, i),
-        Command::DestroyScreen { id } => [35, *id][i],
+        Command::DestroyScreen { id } => [SVGA_CMD_DESTROY_SCREEN, *id][i],
         Command::DefineGmrfb(gmrfb) => [
-            36,
+            SVGA_CMD_DEFINE_GMRFB,
             gmrfb.region,
             gmrfb.offset,
             gmrfb.pitch,
             gmrfb.format.word(),
         ][i],
-        Command::BlitToScreen(blit) => blit_word(37, blit, i),
-        Command::BlitToGmrfb(blit) => blit_word(38, blit, i),
-        Command::DefineGmr2 { region, pages } => [41, *region, *pages][i],
+        Command::BlitToScreen(blit) => blit_word(SVGA_CMD_BLIT_GMRFB_TO_SCREEN, blit, i),
+        Command::BlitToGmrfb(blit) => blit_word(SVGA_CMD_BLIT_SCREEN_TO_GMRFB, blit, i),
+        Command::DefineGmr2 { region, pages } => [SVGA_CMD_DEFINE_GMR2, *region, *pages][i],
         Command::RemapGmr2 {
             region,
             offset,
             pages,
             entries,
-        } => {
-            if i < 5 {
-                [42, *region, entries.flags().bits(), *offset, *pages][i]
-            } else {
-                entry_word(entries, i - 5)
-            }
-        }
+        } => remap_word(*region, *offset, *pages, entries, i),
     }
 }
 
 /// The whole spelling of a command that lists no pages.
 pub fn encode_short(command: &Command) -> ArrayVec<u32, 16>
     requires well_formed { IsWellFormed command.now }
-    requires short { IsShort command.now }
+    requires short { IsShortCommand command.now }
     ensures { result.items ≡ spelling command.now }
 {
     let mut words = ArrayVec::new();
@@ -107,8 +94,8 @@ fn screen_word(def: &ScreenDef, i: usize) -> u32
 {
     match def.backing {
         None => [
-            34,
-            28,
+            SVGA_CMD_DEFINE_SCREEN,
+            SCREEN_SIZE,
             def.id,
             def.flags,
             def.width,
@@ -117,8 +104,8 @@ fn screen_word(def: &ScreenDef, i: usize) -> u32
             def.y.cast_unsigned(),
         ][i],
         Some(backing) => [
-            34,
-            44,
+            SVGA_CMD_DEFINE_SCREEN,
+            BACKED_SCREEN_SIZE,
             def.id,
             def.flags,
             def.width,
@@ -149,17 +136,35 @@ fn blit_word(id: u32, blit: &Blit, i: usize) -> u32
     ][i]
 }
 
+fn remap_word(region: u32, offset: u32, pages: u32, entries: &RemapData, i: usize) -> u32
+    requires { i < length (spelling (Command.RemapGmr2 region offset pages entries.now)) }
+    ensures { result ≡ slice_index (spelling (Command.RemapGmr2 region offset pages entries.now)) i }
+{
+    let head = [
+        SVGA_CMD_REMAP_GMR2,
+        region,
+        entries.flags().bits(),
+        offset,
+        pages,
+    ];
+    if i < head.len() {
+        head[i]
+    } else {
+        entry_word(entries, i - head.len())
+    }
+}
+
 fn entry_count(entries: &RemapData, pages: u32) -> u32
-    requires few { pages ≤ 65536 }
+    requires few { pages ≤ MAX_REMAP_PAGES }
     requires fits { HasEntries entries.now pages }
     ensures count { result ≡ length (entry_words entries.now) }
-    ensures few { result ≤ 131072 }
+    ensures few { result ≤ MAX_ENTRY_WORDS }
 {
     match entries {
         RemapData::Ppn32(_) => pages,
         RemapData::Ppn64(_) => 2 * pages,
         RemapData::SinglePpn32(_) => 1,
-        RemapData::SinglePpn64 { low: _, high: _ } => 2,
+        RemapData::SinglePpn64 { .. } => 2,
         RemapData::ViaGmr32(_) => 2,
         RemapData::ViaGmr64(_) => 2,
     }

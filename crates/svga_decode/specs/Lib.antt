@@ -1,4 +1,6 @@
 pub mod Answers
+pub mod DecoderStates
 pub mod Kept
-pub mod Reading
+pub mod Nexts
 pub mod Scans
+pub mod Visits

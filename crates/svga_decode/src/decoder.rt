@@ -1,11 +1,11 @@
 //! The decoder.
-ghost use Rattle.std.specs.Prelude.{◌≡◌, ◌+◌, ◌-◌, ◌<◌, ◌∷◌, ◌++◌, ◌↔◌, [], length, take, IfOk, IfSome, IsSome, IsTrue};
+ghost use Rattle.std.specs.Prelude.{◌≡◌, ◌+◌, ◌-◌, ◌<◌, ◌≤◌, ◌∷◌, ◌++◌, ◌↔◌, [], length, take, IfOk, IfSome, IsSome, IsTrue};
 ghost use Rattle.svga_cmd.specs.Lent.{command_of};
 ghost use Rattle.svga_cmd.specs.Spelling.{Spells};
-ghost use Rattle.svga_decode.specs.Answers.{IsAnswer};
+ghost use Rattle.svga_decode.specs.Answers.{IsFedAnswer};
 ghost use Rattle.svga_decode.specs.Kept.{IsKept};
-ghost use Rattle.svga_decode.specs.Reading.{fresh, front, IsLive, IsReady, IsRefusal};
-ghost use Rattle.svga_model.specs.Accepted.{IsPart};
+ghost use Rattle.svga_decode.specs.DecoderStates.{begun_words, fresh, IsLive, IsReady, IsRefusal};
+ghost use Rattle.svga_model.specs.Accepted.{IsCommandPart};
 
 use crate::answer::Fed;
 use crate::length::length_of;
@@ -14,13 +14,12 @@ use crate::refusal::word_refusal;
 use std::alloc::{AllocError, Global};
 use std::marker::Model;
 use svga_cmd::CommandRef;
-
-/// The words of the longest command: a remap that lists 65,536 pages in two words each.
-const ROOM: usize = 131077;
+use svga_cmd::constants::MAX_COMMAND_WORDS;
 
 /// Reads commands word by word.
 ///
-/// Contracts see the words of the command in progress, or of the one that has just ended, and the last answer.
+/// Contracts see the words of the command in progress, or of the one that has just ended, and the last
+/// answer.
 #[derive(Debug, Drop)]
 pub struct Decoder {
     buffer: Vec<u32>,
@@ -30,14 +29,16 @@ pub struct Decoder {
 
 impl Model for Decoder {
     ghost use Rattle.std.specs.Prelude.{◌≡◌, ◌≤◌, length, take};
+    ghost use Rattle.svga_cmd.specs.declared.constants.TheConstants.{MAX_COMMAND_WORDS};
+    ghost use Rattle.svga_decode.specs.DecoderStates.{DecoderState};
     ghost use Rattle.svga_decode.specs.Kept.{IsKept};
-    ghost use Rattle.svga_decode.specs.Reading.{Reading};
 
-    ghost Value = { Reading };
+    ghost Value = { DecoderState };
 
     ghost view = { λ a. record { words = take a.len a.buffer.items; last = a.last } };
 
-    ghost invariant = { λ a. IsKept a.last (take a.len a.buffer.items) × (length a.buffer.items ≡ 131077) × (a.len ≤ 131077) };
+    ghost invariant = { λ a. IsKept a.last (take a.len a.buffer.items)
+        × (length a.buffer.items ≡ MAX_COMMAND_WORDS) × (a.len ≤ MAX_COMMAND_WORDS) };
 }
 
 impl Decoder {
@@ -45,7 +46,7 @@ impl Decoder {
     pub fn new(alloc: Global) -> Result<Decoder, AllocError>
         ensures { IfOk result (λ decoder. decoder ≡ fresh) }
     {
-        let buffer = vec![in alloc; 0; ROOM]?;
+        let buffer = vec![in alloc; 0; MAX_COMMAND_WORDS as usize]?;
         Ok(Decoder {
             buffer,
             len: 0,
@@ -55,8 +56,9 @@ impl Decoder {
 
     /// Takes the next word.
     pub fn feed(&mut self, word: u32) -> Fed
-        ensures answer { IsLive self.old.last → IsAnswer result (front self.old ++ word ∷ []) }
-        ensures read { IsLive self.old.last → self.new ≡ record { words = front self.old ++ word ∷ []; last = result } }
+        ensures answer { IsLive self.old.last → IsFedAnswer result (begun_words self.old ++ word ∷ []) }
+        ensures read { IsLive self.old.last → self.new
+            ≡ record { words = begun_words self.old ++ word ∷ []; last = result } }
 
         // After a refusal nothing changes any more.
         ensures refused { IsRefusal self.old.last → (result ≡ self.old.last) × (self.new ≡ self.old) }
@@ -83,20 +85,20 @@ impl Decoder {
         }
     }
 
-    /// Whether the next word is an id.
-    pub(crate) fn is_ready(&self) -> bool
-        requires { IsLive self.now.last }
-        ensures { IsTrue result ↔ IsReady self.now }
+    /// Keeps these words in the place of those that it has, with the answer to the last of them.
+    pub(crate) fn keep(&mut self, words: &[u32], last: Fed)
+        requires few { length words.now ≤ MAX_COMMAND_WORDS }
+        requires kept { IsKept last words.now }
+        ensures { self.new ≡ record { words = words.now; last = last } }
     {
-        match self.last {
-            Fed::More => self.len == 0,
-            _ => true,
-        }
+        put_front(&mut self.buffer, words);
+        self.len = words.len();
+        self.last = last;
     }
 
     fn append(&mut self, word: u32) -> Fed
         requires { self.old.last ≡ Fed.More }
-        ensures answer { IsAnswer result (self.old.words ++ word ∷ []) }
+        ensures answer { IsFedAnswer result (self.old.words ++ word ∷ []) }
         ensures read { self.new ≡ record { words = self.old.words ++ word ∷ []; last = result } }
     {
         let fed = next_word(&mut self.buffer, self.len, word);
@@ -106,12 +108,20 @@ impl Decoder {
     }
 }
 
+/// Puts the words at the front of the buffer.
+fn put_front(buffer: &mut [u32], words: &[u32])
+    requires { length words.now ≤ length buffer.old }
+    ensures { take (length words.now) buffer.new ≡ words.now }
+{
+    buffer[..words.len()].copy_from_slice(words);
+}
+
 /// Puts the word behind the first `len` of the buffer, and judges it.
 fn next_word(buffer: &mut [u32], len: usize, word: u32) -> Fed
     requires room { len < length buffer.old }
-    requires part { IsPart (take len buffer.old) }
+    requires part { IsCommandPart (take len buffer.old) }
     ensures words { take (len + 1) buffer.new ≡ take len buffer.old ++ word ∷ [] }
-    ensures answer { IsAnswer result (take len buffer.old ++ word ∷ []) }
+    ensures answer { IsFedAnswer result (take len buffer.old ++ word ∷ []) }
     ensures kept { IsKept result (take len buffer.old ++ word ∷ []) }
 {
     buffer[len] = word;
@@ -121,8 +131,8 @@ fn next_word(buffer: &mut [u32], len: usize, word: u32) -> Fed
 /// Judges the last of the words. Those before it were accepted.
 fn judge(words: &[u32]) -> Fed
     requires some { 0 < length words.now }
-    requires part { IsPart (take (length words.now - 1) words.now) }
-    ensures answer { IsAnswer result words.now }
+    requires part { IsCommandPart (take (length words.now - 1) words.now) }
+    ensures answer { IsFedAnswer result words.now }
     ensures kept { IsKept result words.now }
 {
     let last = words.len() - 1;

@@ -1,46 +1,56 @@
 //! From the words of a whole command to the command.
 ghost use Rattle.std.specs.Prelude.{◌≡◌, ◌+◌, ◌==◌, if◌then◌else◌, length, slice_index};
 ghost use Rattle.svga_cmd.specs.Lent.{command_of, entries_of};
-ghost use Rattle.svga_cmd.specs.Reading.{blit_in, command_in, entries_in, format_of, pointer_in, screen_in};
+ghost use Rattle.svga_cmd.specs.Spelled.{blit_in, command_in, entries_in, format_of, pointer_in, screen_in};
 ghost use Rattle.svga_cmd.specs.Spelling.{Spells};
-ghost use Rattle.svga_model.specs.Accepted.{IsComplete};
+ghost use Rattle.svga_model.specs.Accepted.{IsCommandWhole};
 ghost use Rattle.svga_model.specs.Lengths.{entry_count};
 
+use svga_cmd::constants::{
+    BGR24_WORD, BGRX32_WORD, RGB565_WORD, SCREEN_SIZE, SVGA_CMD_BLIT_GMRFB_TO_SCREEN,
+    SVGA_CMD_BLIT_SCREEN_TO_GMRFB, SVGA_CMD_DEFINE_GMR2, SVGA_CMD_DEFINE_GMRFB,
+    SVGA_CMD_DEFINE_SCREEN, SVGA_CMD_DESTROY_SCREEN, SVGA_CMD_FENCE, SVGA_CMD_UPDATE,
+    SVGA_REMAP_GMR2_PPN32, SVGA_REMAP_GMR2_PPN64, SVGA_REMAP_GMR2_SINGLE_PPN,
+    SVGA_REMAP_GMR2_VIA_GMR,
+};
 use svga_cmd::{
     Backing, Blit, CommandRef, EntriesRef, Format, Gmrfb, GuestPtr, Point, Rect, ScreenDef,
 };
 
+/// The flag word of a remap whose entries stand in a region as numbers of 64 bits.
+const VIA_GMR_PPN64: u32 = SVGA_REMAP_GMR2_VIA_GMR + SVGA_REMAP_GMR2_PPN64;
+
 /// The command that the words spell. Listed entries are lent from the words.
 pub(crate) fn spelled(words: &[u32]) -> CommandRef<'_>
-    requires { IsComplete words.now }
+    requires { IsCommandWhole words.now }
     ensures { Spells (command_of result) words.now }
 {
     command(words)
 }
 
 fn command(words: &[u32]) -> CommandRef<'_>
-    requires { IsComplete words.now }
+    requires { IsCommandWhole words.now }
     ensures { command_of result ≡ command_in words.now }
 {
     match words[0] {
-        1 => CommandRef::Update {
+        SVGA_CMD_UPDATE => CommandRef::Update {
             x: words[1],
             y: words[2],
             width: words[3],
             height: words[4],
         },
-        30 => CommandRef::Fence { value: words[1] },
-        34 => CommandRef::DefineScreen(screen(words)),
-        35 => CommandRef::DestroyScreen { id: words[1] },
-        36 => CommandRef::DefineGmrfb(Gmrfb {
+        SVGA_CMD_FENCE => CommandRef::Fence { value: words[1] },
+        SVGA_CMD_DEFINE_SCREEN => CommandRef::DefineScreen(screen(words)),
+        SVGA_CMD_DESTROY_SCREEN => CommandRef::DestroyScreen { id: words[1] },
+        SVGA_CMD_DEFINE_GMRFB => CommandRef::DefineGmrfb(Gmrfb {
             region: words[1],
             offset: words[2],
             pitch: words[3],
             format: format(words[4]),
         }),
-        37 => CommandRef::BlitToScreen(blit(words)),
-        38 => CommandRef::BlitToGmrfb(blit(words)),
-        41 => CommandRef::DefineGmr2 {
+        SVGA_CMD_BLIT_GMRFB_TO_SCREEN => CommandRef::BlitToScreen(blit(words)),
+        SVGA_CMD_BLIT_SCREEN_TO_GMRFB => CommandRef::BlitToGmrfb(blit(words)),
+        SVGA_CMD_DEFINE_GMR2 => CommandRef::DefineGmr2 {
             region: words[1],
             pages: words[2],
         },
@@ -57,19 +67,19 @@ fn format(word: u32) -> Format
     ensures { result ≡ format_of word }
 {
     match word {
-        0x1820 => Format::Bgrx32,
-        0x1818 => Format::Bgr24,
-        0x1010 => Format::Rgb565,
+        BGRX32_WORD => Format::Bgrx32,
+        BGR24_WORD => Format::Bgr24,
+        RGB565_WORD => Format::Rgb565,
         _ => Format::Rgb555,
     }
 }
 
 fn screen(words: &[u32]) -> ScreenDef
-    requires { length words.now ≡ (if slice_index words.now 1 == 28 then 8 else 12) }
+    requires { length words.now ≡ (if slice_index words.now 1 == SCREEN_SIZE then 8 else 12) }
     ensures { result ≡ screen_in words.now }
 {
     let backing = match words[1] {
-        28 => None,
+        SCREEN_SIZE => None,
         _ => Some(Backing {
             region: words[8],
             offset: words[9],
@@ -112,11 +122,11 @@ fn entries(words: &[u32]) -> EntriesRef<'_>
     ensures { entries_of result ≡ entries_in words.now }
 {
     match words[2] {
-        0 => EntriesRef::Ppn32(&words[5..]),
-        1 => EntriesRef::ViaGmr32(pointer(words)),
-        2 => EntriesRef::Ppn64(&words[5..]),
-        3 => EntriesRef::ViaGmr64(pointer(words)),
-        4 => EntriesRef::SinglePpn32(words[5]),
+        SVGA_REMAP_GMR2_PPN32 => EntriesRef::Ppn32(&words[5..]),
+        SVGA_REMAP_GMR2_VIA_GMR => EntriesRef::ViaGmr32(pointer(words)),
+        SVGA_REMAP_GMR2_PPN64 => EntriesRef::Ppn64(&words[5..]),
+        VIA_GMR_PPN64 => EntriesRef::ViaGmr64(pointer(words)),
+        SVGA_REMAP_GMR2_SINGLE_PPN => EntriesRef::SinglePpn32(words[5]),
         _ => EntriesRef::SinglePpn64 {
             low: words[5],
             high: words[6],

@@ -1,27 +1,19 @@
 //! Whole lists of words: how many commands, the last fence, and how the words end.
-ghost use Rattle.std.specs.Prelude.{◌≡◌, ◌+◌, ◌^◌, ◌<◌, ◌≤◌, ◌∷◌, ◌++◌, [], ℕ, List, length, IfErr, IfOk};
+ghost use Rattle.std.specs.Prelude.{◌≡◌, ◌≤◌, List, drop, length};
 ghost use Rattle.svga_cmd.specs.Lent.{command_of};
-ghost use Rattle.svga_cmd.specs.Spelling.{Spells};
 ghost use Rattle.svga_cmd.specs.declared.command.Command.{Command};
-ghost use Rattle.svga_decode.specs.Answers.{IsAnswer};
-ghost use Rattle.svga_decode.specs.Reading.{front, IsLive, IsReady};
-ghost use Rattle.svga_decode.specs.Scans.{IsRead, IsScan};
+ghost use Rattle.svga_decode.specs.DecoderStates.{IsReady};
+ghost use Rattle.svga_decode.specs.Scans.{AreCounted, IsLeft, IsScan};
 ghost use Rattle.svga_model.specs.Endings.{fence_after};
 
-use crate::answer::{Cause, Fed};
+use crate::answer::Fed;
 use crate::decoder::Decoder;
-use svga_cmd::CommandRef;
-
-/// How words end.
-#[derive(Clone, Copy, Debug, PartialEq, Eq)]
-pub enum Ending {
-    /// With a whole command, or there are none.
-    Whole,
-    /// At word number `word`, from 0, with which no list of commands goes on.
-    Refused { word: u32, cause: Cause },
-    /// Inside a command. There were `word` words.
-    Torn { word: u32 },
-}
+use crate::visiting::each_command;
+use crate::visitor::Visitor;
+use crate::words::SliceWords;
+use std::convert::Infallible;
+use svga_cmd::constants::MAX_INPUT_WORDS;
+use svga_cmd::{CommandRef, Ending};
 
 /// What a list of words holds.
 #[derive(Clone, Copy, Debug, PartialEq, Eq)]
@@ -35,93 +27,91 @@ pub struct Scanned {
 
 /// The whole commands so far.
 #[derive(Clone, Copy, Debug, PartialEq, Eq)]
-pub(crate) struct Progress {
+pub(crate) struct Counted {
     pub(crate) commands: u32,
     pub(crate) fence: u32,
+    /// The first word of the last command, and the word behind its last; 0 where there is none.
+    pub(crate) first: u32,
+    pub(crate) end: u32,
 }
 
-impl Progress {
-    fn scanned(self, ending: Ending) -> Scanned
-        ensures { result ≡ record { commands = self.commands; fence = self.fence; ending = ending } }
-    {
-        Scanned {
-            commands: self.commands,
-            fence: self.fence,
-            ending,
-        }
+impl Visitor<()> for Counted {
+    ghost use Rattle.std.specs.Prelude.{◌≡◌, ◌≤◌};
+    ghost use Rattle.svga_decode.specs.Scans.{counts};
+
+    type Stop = Infallible;
+
+    ghost can_take = { λ counted on first. counted.commands ≤ first };
+
+    ghost takes = { λ counted on first c now on'. now ≡ counts counted first c };
+
+    ghost stops = { λ counted on first c stop now on'. ⊥ };
+
+    fn command(
+        &mut self,
+        _on: &mut (),
+        first: u32,
+        end: u32,
+        command: &CommandRef<'_>,
+    ) -> Result<(), Infallible> {
+        self.commands += 1;
+        self.fence = fence_with(command, self.fence);
+        self.first = first;
+        self.end = end;
+        Ok(())
     }
 }
 
-/// Feeds the words to a decoder that is between two commands. It stops at a refused word.
+/// Reads the words on from a decoder that is between two commands, as if they were fed to it up to the first
+/// refused one.
 pub fn scan(decoder: &mut Decoder, words: &[u32]) -> Scanned
     requires ready { IsReady decoder.old }
-    requires few { length words.now ≤ 33554432 }
-    ensures { IsScan words.now result decoder.new }
+    requires few { length words.now ≤ MAX_INPUT_WORDS }
+    ensures { IsScan words.now result decoder.old decoder.new }
 {
-    let mut progress = Progress {
+    let mut counted = Counted {
         commands: 0,
         fence: 0,
+        first: 0,
+        end: 0,
     };
-    for (i, word) in words.iter().enumerate() {
-        match advance(decoder, progress, *word) {
-            Ok(next) => progress = next,
-            Err(cause) => {
-                return progress.scanned(Ending::Refused {
-                    word: i as u32,
-                    cause,
-                });
+    let Ok(ending) = each_command(&SliceWords::new(words), &mut [], &mut counted, &mut ());
+    leave(decoder, words, counted, ending);
+    Scanned {
+        commands: counted.commands,
+        fence: counted.fence,
+        ending,
+    }
+}
+
+/// Leaves the decoder as feeding the words would, but for the words of a refused command, which nothing
+/// tells.
+fn leave(decoder: &mut Decoder, words: &[u32], counted: Counted, ending: Ending)
+    requires ready { IsReady decoder.old }
+    requires counted { (cs : List Command) × AreCounted words.now cs counted ending }
+    ensures { (cs : List Command) → AreCounted words.now cs counted ending
+        → IsLeft ending words.now cs decoder.old decoder.new }
+{
+    match ending {
+        Ending::Whole => {
+            if counted.commands > 0 {
+                decoder.keep(words_from(words, counted.first), Fed::Whole);
             }
         }
+        Ending::Refused { cause, .. } => decoder.keep(&[], Fed::Refused { cause }),
+        Ending::Torn { .. } => decoder.keep(words_from(words, counted.end), Fed::More),
     }
-    ended(decoder, progress, words.len() as u32)
 }
 
-/// Feeds the next word.
-fn advance(decoder: &mut Decoder, progress: Progress, word: u32) -> Result<Progress, Cause>
-    requires live { IsLive decoder.old.last }
-    requires few { progress.commands < 2 ^ 31 }
-    ensures read { IfOk result (λ next. (ws : List ℕ) → IsRead ws progress decoder.old → IsRead (ws ++ word ∷ []) next decoder.new) }
-    ensures live { IfOk result (λ next. IsLive decoder.new.last) }
-    ensures count { IfOk result (λ next. next.commands ≤ progress.commands + 1) }
-    ensures refused { IfErr result (λ cause. IsAnswer (Fed.Refused cause) (front decoder.old ++ word ∷ [])) }
-    ensures left { IfErr result (λ cause. decoder.new.last ≡ Fed.Refused cause) }
+/// The words from word `first` on.
+fn words_from(words: &[u32], first: u32) -> &[u32]
+    requires { first ≤ length words.now }
+    ensures { result.now ≡ drop first words.now }
 {
-    match decoder.feed(word) {
-        Fed::More => Ok(progress),
-        Fed::Whole => {
-            let fence = fence_of(decoder, progress.fence);
-            Ok(Progress {
-                commands: progress.commands + 1,
-                fence,
-            })
-        }
-        Fed::Refused { cause } => Err(cause),
-    }
+    &words[first as usize..]
 }
 
-/// What there is to tell where no word was refused.
-fn ended(decoder: &Decoder, progress: Progress, count: u32) -> Scanned
-    requires { IsLive decoder.now.last }
-    ensures { (ws : List ℕ) → length ws ≡ count → IsRead ws progress decoder.now → IsScan ws result decoder.now }
-{
-    if decoder.is_ready() {
-        progress.scanned(Ending::Whole)
-    } else {
-        progress.scanned(Ending::Torn { word: count })
-    }
-}
-
-/// The last fence, with the command that is whole now.
-fn fence_of(decoder: &Decoder, fence: u32) -> u32
-    requires { decoder.now.last ≡ Fed.Whole }
-    ensures { (c : Command) → Spells c decoder.now.words → result ≡ fence_after fence c }
-{
-    match decoder.command() {
-        Some(command) => fence_with(&command, fence),
-        None => fence,
-    }
-}
-
+/// The last fence, with this command.
 fn fence_with(command: &CommandRef<'_>, fence: u32) -> u32
     ensures { result ≡ fence_after fence (command_of command.now) }
 {

@@ -8,11 +8,13 @@ abbrev pub AppendsPrefix : Option (List ℕ) → Option (List ℕ) → List ℕ 
 AppendsPrefix before now bytes = (n : ℕ) × (n ≤ length bytes) × Appends before now (take n bytes)
 
 -- The sink holds these bytes more, and its count didn't fall.
-pub record Grows {K : Type 0} (held : K → Option (List ℕ)) (faults : K → ℕ) (before now : K) (bytes : List ℕ) : Type 0 where
+pub record Grows {K : Type 0} (held : K → Option (List ℕ)) (faults : K → ℕ) (before now : K)
+    (bytes : List ℕ) : Type 0 where
   pub appended : Appends (held before) (held now) bytes
   pub steady : faults before ≤ faults now
 
 -- The sink holds a prefix of these bytes more, and its count rose.
-pub record GrowsByPrefix {K : Type 0} (held : K → Option (List ℕ)) (faults : K → ℕ) (before now : K) (bytes : List ℕ) : Type 0 where
+pub record GrowsByPrefix {K : Type 0} (held : K → Option (List ℕ)) (faults : K → ℕ) (before now : K)
+    (bytes : List ℕ) : Type 0 where
   pub appended : AppendsPrefix (held before) (held now) bytes
   pub cause : Rises (faults before) (faults now)

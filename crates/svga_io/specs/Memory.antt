@@ -7,7 +7,8 @@ pub record CleanState : Type 0 where
   pub left : List ℕ
   pub piece : ℕ
 
--- A source with faults: also the calls made so far, the numbers of the calls that fail, and the faults so far.
+-- A source with faults: also the calls made so far, the numbers of the
+-- calls that fail, and the faults so far.
 pub record SourceState : Type 0 where
   pub left : List ℕ
   pub piece : ℕ
@@ -15,7 +16,8 @@ pub record SourceState : Type 0 where
   pub failing : List ℕ
   pub faults : ℕ
 
--- A sink: the bytes held, how many it has room for, the calls made so far, the numbers of those that fail, and the faults so far.
+-- A sink: the bytes held, how many it has room for, the calls made so far, the numbers of
+-- those that fail, and the faults so far.
 pub record SinkState : Type 0 where
   pub held : List ℕ
   pub capacity : ℕ

@@ -1,5 +1,6 @@
 //! Sources and sinks of bytes, which count their faults: what reads a whole input and writes a whole text,
-//! sources and sinks in memory for tests, and the adapters over std's reader and writer. It stands on std alone.
+//! sources and sinks in memory for tests, and the adapters over std's reader and writer. It stands on std,
+//! and on `svga_cmd` for the greatest length of an input alone.
 #![tactic(auto)]
 
 mod clean_source;

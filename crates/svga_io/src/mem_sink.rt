@@ -24,16 +24,24 @@ impl Model for MemSink {
 
     ghost Value = { SinkState };
 
-    ghost view = { λ a. record { held = a.bytes.items; capacity = a.capacity; calls = a.calls; failing = a.failing.items; faults = a.faults } };
+    ghost view = { λ a.
+        record {
+          held = a.bytes.items;
+          capacity = a.capacity;
+          calls = a.calls;
+          failing = a.failing.items;
+          faults = a.faults;
+        } };
 
     ghost invariant = { λ a. (vec_len a.bytes ≤ a.capacity) × (a.capacity ≤ vec_capacity a.bytes) };
 }
 
 impl MemSink {
-    /// Room for `capacity` bytes is taken here, and no memory later. The calls whose numbers, from 0 on, stand in
-    /// `failing` fail.
+    /// Room for `capacity` bytes is taken here, and no memory later. The calls whose numbers, from 0 on,
+    /// stand in `failing` fail.
     pub fn new(alloc: Global, capacity: usize, failing: Vec<u64>) -> Result<MemSink, AllocError>
-        ensures { IfOk result (λ sink. sink ≡ record { held = []; capacity = capacity; calls = 0; failing = failing.items; faults = 0 }) }
+        ensures { IfOk result (λ sink. sink
+            ≡ record { held = []; capacity = capacity; calls = 0; failing = failing.items; faults = 0 }) }
     {
         Ok(MemSink {
             bytes: Vec::with_capacity(alloc, capacity)?,
@@ -59,11 +67,17 @@ impl Sink for MemSink {
 
     fn put(&mut self, piece: &[u8]) -> Result<usize, Failed>
         ensures fails { IsErr result ↔ Contains self.old.failing self.old.calls }
-        ensures err { OnErr result (self.new ≡ record self.old { calls = one_more self.old.calls; faults = one_more self.old.faults }) }
+        ensures err { OnErr result (self.new
+            ≡ record self.old { calls = one_more self.old.calls; faults = one_more self.old.faults }) }
         ensures steady { self.old.faults ≤ self.new.faults }
 
         ensures count { IfOk result (λ n. n ≡ taken_by self.old piece.now) }
-        ensures ok { IfOk result (λ n. self.new ≡ record self.old { held = self.old.held ++ take n piece.now; calls = one_more self.old.calls; faults = faults_after self.old piece.now n }) }
+        ensures ok { IfOk result (λ n. self.new
+            ≡ record self.old {
+              held = self.old.held ++ take n piece.now;
+              calls = one_more self.old.calls;
+              faults = faults_after self.old piece.now n;
+            }) }
     {
         let fails = self.failing.contains(&self.calls);
         self.calls = self.calls.saturating_add(1);

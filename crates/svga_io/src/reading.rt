@@ -6,23 +6,28 @@ ghost use Rattle.svga_io.specs.Taking.{taken_count, LosesFront};
 
 use crate::{Failed, InFault, Source};
 use std::alloc::{AllocError, Global};
+use svga_cmd::constants::MAX_INPUT_BYTES;
 
-/// The most bytes that one call of the source is asked for: few calls for a long input, little memory for a short one.
+/// The most bytes that one call of the source is asked for: few calls for a long
+/// input, little memory for a short one.
 const PIECE: usize = 64 * 1024;
 
 /// Reads to the end, but takes no more than one byte past `limit`. It asks for memory for a buffer of 64 KiB
 /// beside the bytes, whose vector grows by doubling.
 pub fn read_all<S: Source>(alloc: Global, source: &mut S, limit: usize) -> Result<Vec<u8>, InFault>
-    requires { limit ≤ 134217728 }
+    requires { limit ≤ MAX_INPUT_BYTES }
 
     ensures bytes { IfOk result (λ bytes. IfSome (S.left source.old) (λ left. bytes.items ≡ left)) }
     ensures end { OnOk result (IfSome (S.left source.old) (λ _. S.left source.new ≡ Some [])) }
     ensures length { IfOk result (λ bytes. vec_len bytes ≤ limit) }
 
     // The count is the cause of a fault; a body can't raise it by itself.
-    ensures read_fault { IsErrOf result InFault.ReadFault → Rises (S.faults source.old) (S.faults source.new) }
+    ensures read_fault { IsErrOf result InFault.ReadFault
+        → Rises (S.faults source.old) (S.faults source.new) }
     ensures steady { S.faults source.old ≤ S.faults source.new }
-    ensures complete { IfSome (S.left source.old) (λ left. length left ≤ limit → ¬ (Rises (S.faults source.old) (S.faults source.new)) → IsOkUnless result InFault.Memory) }
+    ensures complete { IfSome (S.left source.old)
+        (λ left. length left ≤ limit → ¬ (Rises (S.faults source.old) (S.faults source.new))
+        → IsOkUnless result InFault.Memory) }
 
     // Whatever the answer, the bytes taken are the front of what was left.
     ensures too_long { IfSome (taken_count (S.left source.old) (S.left source.new))

@@ -21,5 +21,6 @@ pub trait Sink {
 
         ensures steady { faults self.old ≤ faults self.new }
         ensures cause { OnErr result (Rises (faults self.old) (faults self.new)) }
-        ensures nothing { IfOk result (λ n. n ≡ 0 → 0 < length piece.now → Rises (faults self.old) (faults self.new)) };
+        ensures nothing { IfOk result (λ n. n ≡ 0 → 0 < length piece.now
+            → Rises (faults self.old) (faults self.new)) };
 }

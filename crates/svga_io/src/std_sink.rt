@@ -38,12 +38,14 @@ impl<W: Write> Sink for StdSink<W> {
 
     fn put(&mut self, piece: &[u8]) -> Result<usize, Failed>
         ensures bound { IfOk result (λ n. n ≤ length piece.now) }
-        ensures appended { IfOk result (λ n. Appends (W.contents self.old.inner) (W.contents self.new.inner) (take n piece.now)) }
+        ensures appended { IfOk result (λ n.
+            Appends (W.contents self.old.inner) (W.contents self.new.inner) (take n piece.now)) }
         ensures kept { OnErr result (Keeps (W.contents self.old.inner) (W.contents self.new.inner)) }
 
         ensures steady { self.old.faults ≤ self.new.faults }
         // An error counts, and so does a write of 0 bytes.
-        ensures counted { self.new.faults ≡ (if result_unwrap_or result 0 == 0 then one_more self.old.faults else self.old.faults) }
+        ensures counted { self.new.faults
+            ≡ (if result_unwrap_or result 0 == 0 then one_more self.old.faults else self.old.faults) }
     {
         let written = self.writer.write(piece);
         if !matches!(written, Ok(1..)) {

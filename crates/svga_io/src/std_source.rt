@@ -39,12 +39,15 @@ impl<R: Read> Source for StdSource<R> {
         requires { 0 < length buf.old }
 
         ensures bound { IfOk result (λ n. n ≤ length buf.old) }
-        ensures taken { IfOk result (λ n. Consumes (R.remaining self.old.inner) (R.remaining self.new.inner) (take n buf.new)) }
-        ensures end { IfOk result (λ n. IfSome (R.remaining self.old.inner) (λ bytes. (n ≡ 0) ↔ (bytes ≡ []))) }
+        ensures taken { IfOk result
+            (λ n. Consumes (R.remaining self.old.inner) (R.remaining self.new.inner) (take n buf.new)) }
+        ensures end { IfOk result
+            (λ n. IfSome (R.remaining self.old.inner) (λ bytes. (n ≡ 0) ↔ (bytes ≡ []))) }
         ensures kept { OnErr result (Keeps (R.remaining self.old.inner) (R.remaining self.new.inner)) }
 
         ensures steady { self.old.faults ≤ self.new.faults }
-        ensures counted { self.new.faults ≡ (if is_ok result then self.old.faults else one_more self.old.faults) }
+        ensures counted { self.new.faults
+            ≡ (if is_ok result then self.old.faults else one_more self.old.faults) }
     {
         match self.reader.read(buf) {
             Ok(n) => Ok(n),

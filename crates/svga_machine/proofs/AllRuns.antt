@@ -26,8 +26,8 @@ use Rattle.svga_transfer.specs.Reach.{HasPages}
 abbrev pub HasMet : State → List Act → Type 0
 HasMet s acts = (key : PageKey) → is_met s acts key ≡ true → HasPage s.memory key
 
--- So many of all acts were run, from the first state to the second, and the run of those that are left is the rest of the
--- whole run.
+-- So many of all acts were run, from the first state to the second, and the run of those that are left is
+-- the rest of the whole run.
 pub record IsLeft (all left : List Act) (first now : State) (n : ℕ) : Type 0 where
   pub ends : run first all ≡ run now left
   pub count : done first all ≡ n + done now left

@@ -1,5 +1,4 @@
 pub mod AllRuns
-pub mod ChainParts
 pub mod PartsLaws
 pub mod RunLaws
 pub mod StoreLaws

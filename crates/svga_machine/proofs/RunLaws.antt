@@ -1,6 +1,6 @@
 -- What a machine's judgement of a command, by its shape, says of its state.
 use Rattle.std.proofs.Common.{◌≡◌, ap, refl, sym, ◌∙◌, None, Some}
-use Rattle.std.specs.Prelude.{Result, Ok, Err, IsErrAnd}
+use Rattle.std.specs.Prelude.{Result, Ok, Err, IsErrAnd, OnErr, OnOk}
 use Rattle.std.specs.Result.{result_err}
 use Rattle.svga_cmd.specs.declared.command.Command.{Command}
 use Rattle.svga_cmd.specs.declared.fault.Fault.{Fault}
@@ -29,3 +29,13 @@ refused_is s c σ f same told =
 pub given_fault : {A : Type 0} (r : Result A Fault) (f : Fault) → IsErrAnd r (λ g. g ≡ f) → result_err r ≡ Some f
 given_fault (Ok a) f is = absurd is
 given_fault (Err g) f is = ap Some is
+
+-- such an answer isn't Ok
+pub not_ok : {A : Type 0} (P : Type 0) (r : Result A Fault) (f : Fault) → IsErrAnd r (λ g. g ≡ f) → OnOk r P
+not_ok P (Ok a) f is = absurd is
+not_ok P (Err g) f is = tt
+
+-- what holds in any case holds on an answer that isn't Ok
+pub on_err_also : {A : Type 0} (P : Type 0) (r : Result A Fault) → P → OnErr r P
+on_err_also P (Ok a) holds = tt
+on_err_also P (Err g) holds = holds

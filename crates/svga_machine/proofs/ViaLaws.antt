@@ -1,21 +1,27 @@
 -- A remap by VIA_GMR means the remap by the numbers that stand there, named.
-use Rattle.std.proofs.Common.{◌≡◌, ℕ, ◌*◌, ap, ◌∙◌, List, [], ◌∷◌, ◌++◌, Bool, true, false, Some, None}
+use Rattle.std.proofs.Common.{◌≡◌, ℕ, ◌*◌, ◌+◌, ◌&&◌, ap, refl, is_none, is_some, nat_le, nat_lt, ◌∙◌, List, [], ◌∷◌, ◌++◌, Bool, true, false, Some, None}
+use Rattle.std.specs.List.{list_any}
 use Rattle.svga_cmd.specs.Limits.{frame_page_count}
 use Rattle.svga_cmd.specs.declared.command.Command.TheVariants.{RemapGmr2}
+use Rattle.svga_cmd.specs.declared.constants.TheConstants.{MAX_REGION_ID}
 use Rattle.svga_cmd.specs.declared.fault.Fault.{Fault}
+use Rattle.svga_cmd.specs.declared.fault.Fault.TheVariants as fault
 use Rattle.svga_cmd.specs.declared.gmrfb.GuestPtr.{GuestPtr}
-use Rattle.svga_cmd.specs.declared.remap.RemapData.TheVariants.{Ppn32, Ppn64, ViaGmr32, ViaGmr64}
+use Rattle.svga_cmd.specs.declared.remap.RemapData.{RemapData}
+use Rattle.svga_cmd.specs.declared.remap.RemapData.TheVariants.{Ppn32, Ppn64, SinglePpn32, SinglePpn64, ViaGmr32, ViaGmr64}
 use Rattle.svga_model.proofs.ActLaws.{fault_is}
 use Rattle.svga_model.proofs.ValidRemaps.{pointed_judged}
 use Rattle.svga_model.proofs.ValidRules.{parts_none}
 use Rattle.svga_model.specs.Acts.{Do}
-use Rattle.svga_model.specs.Faults.{fault_of, shape_tests}
+use Rattle.svga_model.specs.Faults.{ReadsNumbers, fault_of, shape_tests}
 use Rattle.svga_model.specs.Memories.{region_byte}
 use Rattle.svga_model.specs.PointedNumbers.{Pointed, numbers_at, numbers_judged, pointed_by, pointer_tests}
-use Rattle.svga_model.specs.Regions.{joined_list, region_places, remap_tests, with_remap}
-use Rattle.svga_model.specs.Standing.{least_standing, lesser_of}
-use Rattle.svga_model.specs.States.{State, shape_of, with_regions}
+use Rattle.svga_model.specs.Regions.{defined_places, joined_list, named_pages, region_length, region_places, remap_tests, with_remap}
+use Rattle.svga_model.specs.Standing.{first_standing, least_standing, lesser_of}
+use Rattle.svga_model.specs.States.{Shape, State, shape_of, with_regions}
 use Rattle.svga_model.specs.Steps.{step}
+use Rattle.svga_region.specs.Numbers.{number_tests}
+use Rattle.svga_machine.specs.Remaps.{IsRangeAdmitted}
 use Rattle.svga_machine.proofs.ViaNumbers.{joined_numbers, single_numbers, words_from}
 
 -- the bytes of the region that the pointer points into
@@ -94,3 +100,44 @@ pub via64_step : (s : State) (region offset pages : ℕ) (at : GuestPtr)
 via64_step s region offset pages at =
     ap (λ numbers. with_regions s (with_remap s.kept.regions region offset numbers))
     (joined_numbers (bytes_of s at) at pages)
+
+-- where the range of a remap isn't refused, its numbers alone are judged
+range_alone : (a b c d : Bool)
+    → least_standing ((a, fault.NoRegion) ∷ (b, fault.RegionId) ∷ (c, fault.RangeBeyond) ∷ (false, fault.BadPage) ∷ []) ≡ None
+    → least_standing ((a, fault.NoRegion) ∷ (b, fault.RegionId) ∷ (c, fault.RangeBeyond) ∷ (d, fault.BadPage) ∷ [])
+    ≡ first_standing ((d, fault.BadPage) ∷ [])
+range_alone true b c d none = absurd cc
+range_alone false true c d none = absurd cc
+range_alone false false true d none = absurd cc
+range_alone false false false true none = refl
+range_alone false false false false none = refl
+
+pub named_tests : (s : Shape) (region offset pages : ℕ) (entries : RemapData) → IsRangeAdmitted s region offset pages
+    → ¬ (ReadsNumbers (RemapGmr2 region offset pages entries))
+    → least_standing (shape_tests s (RemapGmr2 region offset pages entries))
+    ≡ first_standing (number_tests s.limits.pages (named_pages entries pages))
+named_tests s region offset pages entries none named = at entries named where
+  of : (numbers : List ℕ) → least_standing (remap_tests s.limits.pages s.regions region offset pages numbers ++ [])
+      ≡ first_standing (number_tests s.limits.pages numbers)
+  of numbers = range_alone
+      (nat_le region MAX_REGION_ID && is_none (defined_places s.regions region)) (nat_lt MAX_REGION_ID region)
+      (is_some (defined_places s.regions region) && nat_lt (region_length s.regions region) (offset + pages))
+      (list_any (λ n. nat_le s.limits.pages n) numbers) none
+
+  at : (e : RemapData) → ¬ (ReadsNumbers (RemapGmr2 region offset pages e))
+      → least_standing (shape_tests s (RemapGmr2 region offset pages e))
+      ≡ first_standing (number_tests s.limits.pages (named_pages e pages))
+  at (Ppn32 list) named = of list
+  at (Ppn64 list) named = of (joined_list list pages)
+  at (SinglePpn32 page) named = of (page ∷ [])
+  at (SinglePpn64 low high) named = of (named_pages (SinglePpn64 low high) pages)
+  at (ViaGmr32 pointer) named = absurd (named refl)
+  at (ViaGmr64 pointer) named = absurd (named refl)
+
+-- a remap by numbers that are read has a range that isn't refused
+pub via_range : (s : Shape) (region offset pages : ℕ) (at : Pointed)
+    → least_standing (remap_tests s.limits.pages s.regions region offset pages []
+    ++ pointer_tests (frame_page_count s.limits) s.regions at pages) ≡ None
+    → IsRangeAdmitted s region offset pages
+via_range s region offset pages at none = (parts_none (remap_tests s.limits.pages s.regions region offset pages [])
+    (pointer_tests (frame_page_count s.limits) s.regions at pages) none).0

@@ -15,4 +15,5 @@ abbrev pub IsWholeState : Limits → State → Type 0
 IsWholeState l s = (s.kept.limits ≡ l) × IsState s × ((key : PageKey) → IsKey l key → HasPage s.memory key)
 
 abbrev pub coded_state : Coded State
-coded_state = code_by (Kept × Memory) (coded× coded_kept (map.code key.the_row.coded (coded_list coded_ℕ))) (λ s. (s.kept, s.memory)) (λ p. record { kept = p.0; memory = p.1 }) (λ _. refl)
+coded_state = code_by (Kept × Memory) (coded× coded_kept (map.code key.the_row.coded (coded_list coded_ℕ)))
+    (λ s. (s.kept, s.memory)) (λ p. record { kept = p.0; memory = p.1 }) (λ _. refl)

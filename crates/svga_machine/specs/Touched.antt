@@ -12,9 +12,11 @@ use Rattle.svga_transfer.specs.Reach.{HasPages}
 
 -- the store has each mapped page of the region that the command touches, where it is admitted and touches one
 abbrev pub HasTouched : Kept → Memory → Command → Type 0
-HasTouched k memory c = least_standing (shape_tests (shape_of k) c) ≡ None → HasPages memory (touched_places k c)
+HasTouched k memory c = least_standing (shape_tests (shape_of k) c) ≡ None
+    → HasPages memory (touched_places k c)
 
--- the same of a remap that is admitted: each mapped page of the region that its numbers are read from, if they are
+-- the same of a remap that is admitted: each mapped page of the region that its numbers are read from, if
+-- they are
 abbrev pub HasPointed : ℕ → Regions → Memory → Option Pointed → Type 0
 HasPointed frame regions m None = ⊤
 HasPointed frame regions m (Some at) = HasPages m (region_places frame regions at.region)

@@ -19,6 +19,7 @@ use crate::effect::Effect;
 use crate::machine::Machine;
 use std::alloc::{AllocError, Global};
 use std::marker::Model;
+use svga_cmd::constants::PAGE_SIZE;
 use svga_cmd::{CommandRef, Fault, Limits, MemPages, PageKey, PageStore};
 
 /// A software display: a machine, and in memory all pages of its device.
@@ -44,8 +45,8 @@ impl Model for Display {
 }
 
 impl Display {
-    /// A display at its opening: no region but the framebuffer's, no GMRFB, no screen, fence 0, and pages of zeros. It is
-    /// the only call that takes memory.
+    /// A display at its opening: no region but the framebuffer's, no GMRFB, no screen, fence 0, and pages of
+    /// zeros. It is the only call that takes memory.
     pub fn new(alloc: Global, limits: Limits) -> Result<Display, AllocError>
         requires { AreLimits limits }
         ensures kept { IfOk result (λ display. display.kept ≡ opening_kept limits 1) }
@@ -91,11 +92,13 @@ impl Display {
         }
     }
 
-    /// Writes bytes into a page from byte `at` on. It is false, and nothing changes, where the page isn't one of the
-    /// device's or the bytes go past its end.
+    /// Writes bytes into a page from byte `at` on. It is false, and nothing changes, where the page isn't one
+    /// of the device's or the bytes go past its end.
     pub fn write(&mut self, key: PageKey, at: usize, bytes: &[u8]) -> bool
-        ensures written { IsTrue result ↔ (IsKey self.old.kept.limits key × (at + length bytes.now ≤ 4096)) }
-        ensures put { IsTrue result → self.new ≡ step self.old (Put key (painted_row (page_bytes self.old.memory key) at bytes.now)) }
+        ensures written { IsTrue result ↔ (IsKey self.old.kept.limits key
+            × (at + length bytes.now ≤ PAGE_SIZE)) }
+        ensures put { IsTrue result → self.new ≡ step self.old
+            (Put key (painted_row (page_bytes self.old.memory key) at bytes.now)) }
         ensures refused { result ≡ false → self.new ≡ self.old }
     {
         if !fits(self.limits, key, at, bytes.len()) {
@@ -109,9 +112,9 @@ impl Display {
 /// Whether a device has a page of this key, and so many bytes from byte `at` on lie on it.
 fn fits(limits: Limits, key: PageKey, at: usize, count: usize) -> bool
     requires { AreLimits limits }
-    ensures { IsTrue result ↔ (IsKey limits key × (at + count ≤ 4096)) }
+    ensures { IsTrue result ↔ (IsKey limits key × (at + count ≤ PAGE_SIZE)) }
 {
-    is_key(limits, key) && at <= 4096 && count <= 4096 - at
+    is_key(limits, key) && at <= PAGE_SIZE && count <= PAGE_SIZE - at
 }
 
 /// Writes bytes into others, which stay as many.

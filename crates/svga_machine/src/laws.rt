@@ -8,5 +8,6 @@ ghost use Rattle.svga_machine.specs.Touched.{HasTouched};
 
 /// A store that has all pages of the device serves every command.
 pub fn whole_store()
-    ensures { (s : State) (c : Command) → IsState s → ((key : PageKey) → IsKey s.kept.limits key → HasPage s.memory key) → HasTouched s.kept s.memory c }
+    ensures { (s : State) (c : Command) → IsState s
+        → ((key : PageKey) → IsKey s.kept.limits key → HasPage s.memory key) → HasTouched s.kept s.memory c }
 {}

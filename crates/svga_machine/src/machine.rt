@@ -2,25 +2,23 @@
 ghost use Rattle.std.specs.Prelude.{◌≡◌, ◌≢◌, IfOk, OnOk, OnErr, Some, None, length};
 ghost use Rattle.std.specs.Result.{result_err};
 ghost use Rattle.svga_cmd.specs.Lent.{command_of, entries_of};
-ghost use Rattle.svga_cmd.specs.Limits.{AreLimits};
+ghost use Rattle.svga_cmd.specs.Limits.{AreLimits, frame_page_count};
 ghost use Rattle.svga_cmd.specs.WellFormed.{IsWellFormed};
 ghost use Rattle.svga_cmd.specs.declared.command.Command.TheVariants as commands;
 ghost use Rattle.svga_model.specs.Acts.{Do};
-ghost use Rattle.svga_model.specs.Faults.{fault_of, shape_tests};
+ghost use Rattle.svga_model.specs.Faults.{fault_of};
 ghost use Rattle.svga_model.specs.Regions.{frame_places, with_region};
 ghost use Rattle.svga_model.specs.Screens.{definitions_of, with_screen, without_screen};
-ghost use Rattle.svga_model.specs.Standing.{first_standing, least_standing};
 ghost use Rattle.svga_model.specs.States.{frame_pages, opening_kept, shape_of};
 ghost use Rattle.svga_model.specs.Steps.{new_gmrfb, read_back, shown, step, updated, updated_colours};
 ghost use Rattle.svga_model.specs.Touches.{touched_places};
-ghost use Rattle.svga_model.specs.Walks.{list_tests, start_tests, with_pages};
-ghost use Rattle.svga_region.specs.Chains.{Answers, begun_chain};
-ghost use Rattle.svga_region.specs.Conditions.{IsBegun, IsWhole};
-ghost use Rattle.svga_region.specs.RegionSet.{Chain};
+ghost use Rattle.svga_region.specs.ChainCalls.{FinishesChain, ReadsChain, StartsChain};
+ghost use Rattle.svga_region.specs.Conditions.{IsChainBegun, IsChainWhole};
+ghost use Rattle.svga_shape.specs.Admission.{IsAdmitted};
 ghost use Rattle.svga_shape.specs.ShapeSet.{AreOfLimits, shape_in};
 ghost use Rattle.svga_transfer.specs.Areas.{ArePainted};
 ghost use Rattle.svga_machine.specs.Effects.{IsEffect, blit_colours};
-ghost use Rattle.svga_machine.specs.MachineSet.{state_with};
+ghost use Rattle.svga_machine.specs.MachineSet.{opened_machine, regions_in, state_with, with_regions_of};
 ghost use Rattle.svga_transfer.specs.Reach.{HasPages};
 ghost use Rattle.svga_machine.specs.Touched.{HasTouched};
 
@@ -29,19 +27,18 @@ use crate::remap::remap;
 use arrayvec::ArrayVec;
 use std::alloc::{AllocError, Global};
 use std::marker::Model;
+use svga_cmd::constants::MAX_ENTRY_WORDS;
 use svga_cmd::{Blit, CommandRef, EntriesRef, Fault, Gmrfb, Limits, Page, PageStore, ScreenDef};
-use svga_region::ChainNext;
+use svga_region::{ChainNext, Regions};
 use svga_screen::{Area, Screens};
-use svga_shape::{Shape, named_gmrfb};
+use svga_shape::Shape;
 use svga_transfer::{Extent, RowRoom, blit_to_region, blit_to_screens, update_screens};
 
 /// A device without its pages and its queue: what each command does, one after another.
 #[derive(Drop)]
 pub struct Machine {
-    limits: Limits,
-    /// The regions, and what faults are judged by.
+    /// The limits, the regions and the GMRFB, and what faults are judged by.
     shape: Shape,
-    gmrfb: Option<Gmrfb>,
     screens: Screens,
     fence: u32,
     row: RowRoom,
@@ -51,41 +48,58 @@ pub struct Machine {
 
 impl Model for Machine {
     ghost use Rattle.std.specs.Prelude.{◌≡◌, length};
+    ghost use Rattle.svga_cmd.specs.declared.constants.TheConstants.{MAX_ENTRY_WORDS};
     ghost use Rattle.svga_machine.specs.MachineSet.{AreParts, MachineSet, coded_machine_set, kept_of};
 
     ghost Value = { MachineSet };
 
     ghost coded = { coded_machine_set };
 
-    ghost view = { λ m. record { kept = kept_of m.limits m.shape m.gmrfb m.screens m.fence; chain = m.shape.regions.chain } };
+    ghost view = { λ m. record { kept = kept_of m.shape m.screens m.fence; chain = m.shape.regions.chain } };
 
-    ghost invariant = { λ m. AreParts (kept_of m.limits m.shape m.gmrfb m.screens m.fence) m.shape m.screens × (length m.numbers.items ≡ 131072) };
+    ghost invariant = { λ m. AreParts (kept_of m.shape m.screens m.fence) m.shape m.screens
+        × (length m.numbers.items ≡ MAX_ENTRY_WORDS) };
 }
 
 impl Machine {
-    /// A machine at its opening: no region but the framebuffer's, no GMRFB, no screen, fence 0. It is the only call that
-    /// takes memory, and takes all that the others need.
+    /// A machine at its opening: no region but the framebuffer's, no GMRFB, no screen, fence 0. It takes all
+    /// memory that the other calls need.
     pub fn new(alloc: Global, limits: Limits) -> Result<Machine, AllocError>
         requires { AreLimits limits }
         ensures { IfOk result (λ machine. machine ≡ record { kept = opening_kept limits 1; chain = None }) }
     {
-        let shape = Shape::new(alloc, limits)?;
+        let regions = Regions::new(alloc, limits.pages, limits.frame_pages())?;
+        Machine::opened(alloc, limits, regions, 0)
+    }
+
+    /// The same with regions and a fence that are there at the opening. Beside `new` it is the only call that
+    /// takes memory.
+    pub fn opened(
+        alloc: Global,
+        limits: Limits,
+        regions: Regions,
+        fence: u32,
+    ) -> Result<Machine, AllocError>
+        requires limits { AreLimits limits }
+        requires guest { regions.guest ≡ limits.pages }
+        requires frame { regions.frame ≡ frame_page_count limits }
+        ensures { IfOk result (λ machine. machine ≡ opened_machine limits regions fence) }
+    {
+        let shape = Shape::opened(limits, regions);
         let screens = Screens::new(alloc, limits.budget)?;
         let row = RowRoom::new(alloc)?;
-        let numbers = vec![in alloc; 0; 131072]?;
+        let numbers = vec![in alloc; 0; MAX_ENTRY_WORDS as usize]?;
         Ok(Machine {
-            limits,
             shape,
-            gmrfb: None,
             screens,
-            fence: 0,
+            fence,
             row,
             numbers,
         })
     }
 
-    /// Runs a command on the pages of a store. A fault changes nothing. Of the store's pages it needs those of the region
-    /// that the command touches.
+    /// Runs a command on the pages of a store. A fault changes nothing. Of the store's pages it needs those
+    /// of the region that the command touches.
     pub fn run<P: PageStore>(
         &mut self,
         store: &mut P,
@@ -93,9 +107,12 @@ impl Machine {
     ) -> Result<Effect, Fault>
         requires well_formed { IsWellFormed (command_of command.now) }
         requires there { HasTouched self.old.kept (P.pages store.old) (command_of command.now) }
-        ensures fault { result_err result ≡ fault_of (state_with self.old (P.pages store.old)) (Do (command_of command.now)) }
-        ensures ok { OnOk result (state_with self.new (P.pages store.new) ≡ step (state_with self.old (P.pages store.old)) (Do (command_of command.now))) }
-        ensures effect { IfOk result (IsEffect (state_with self.old (P.pages store.old)) (command_of command.now)) }
+        ensures fault { result_err result ≡ fault_of (state_with self.old (P.pages store.old))
+            (Do (command_of command.now)) }
+        ensures ok { OnOk result (state_with self.new (P.pages store.new)
+            ≡ step (state_with self.old (P.pages store.old)) (Do (command_of command.now))) }
+        ensures effect { IfOk result (IsEffect (state_with self.old (P.pages store.old))
+            (command_of command.now)) }
         ensures err { OnErr result ((self.new ≡ self.old) × (store.new ≡ store.old)) }
         // A chain that is begun stays so.
         ensures chain { self.new.chain ≡ self.old.chain }
@@ -170,7 +187,7 @@ impl Machine {
         ensures limits { result ≡ self.now.kept.limits }
         ensures allowed { AreLimits result }
     {
-        self.limits
+        self.shape.limits()
     }
 
     /// The last fence, or that of the opening.
@@ -182,7 +199,10 @@ impl Machine {
 
     /// The screens.
     pub fn screens(&self) -> &Screens
-        ensures { result.now ≡ record { budget = self.now.kept.limits.budget; screens = self.now.kept.screens } }
+        ensures { result.now ≡ record {
+          budget = self.now.kept.limits.budget;
+          screens = self.now.kept.screens;
+        } }
     {
         &self.screens
     }
@@ -190,28 +210,26 @@ impl Machine {
     /// Begins a chain: `Shape::chain_start` of its shape.
     pub fn chain_start(&mut self, id: u32, first: u32) -> Result<(), Fault>
         requires { first ≢ 0 }
-        ensures fault { result_err result ≡ first_standing (start_tests self.old.kept.limits.pages id first) }
-        ensures ok { OnOk result (self.new ≡ record self.old { chain = Some (begun_chain id first) }) }
-        ensures err { OnErr result (self.new ≡ self.old) }
+        ensures chain { StartsChain (regions_in self.old) id first result (regions_in self.new) }
+        ensures kept { self.new ≡ with_regions_of self.old self.new }
     {
         self.shape.chain_start(id, first)
     }
 
     /// Reads the table page that is wanted next: `Shape::chain_page` of its shape.
     pub fn chain_page(&mut self, page: &Page) -> Result<ChainNext, Fault>
-        requires { IsBegun self.old.chain }
-        ensures answer { Answers self.old.kept.limits.pages self.old.chain page.now result self.new.chain }
-        ensures kept { self.new ≡ record self.old { chain = self.new.chain } }
+        requires { IsChainBegun self.old.chain }
+        ensures chain { ReadsChain (regions_in self.old) page.now result (regions_in self.new) }
+        ensures kept { self.new ≡ with_regions_of self.old self.new }
     {
         self.shape.chain_page(page)
     }
 
     /// Gives the region the chain's list: `Shape::chain_finish` of its shape.
     pub fn chain_finish(&mut self) -> Result<(), Fault>
-        requires { IsWhole self.old.chain }
-        ensures fault { (c : Chain) → self.old.chain ≡ Some c → result_err result ≡ first_standing (list_tests self.old.kept.regions c.id (length c.pages)) }
-        ensures ok { OnOk result ((c : Chain) → self.old.chain ≡ Some c → self.new ≡ record { kept = record self.old.kept { regions = with_pages self.old.kept.regions c.id c.pages }; chain = None }) }
-        ensures err { OnErr result (self.new ≡ record self.old { chain = None }) }
+        requires { IsChainWhole self.old.chain }
+        ensures chain { FinishesChain (regions_in self.old) result (regions_in self.new) }
+        ensures kept { self.new ≡ with_regions_of self.old self.new }
     {
         self.shape.chain_finish()
     }
@@ -219,11 +237,16 @@ impl Machine {
     /// UPDATE.
     fn update<P: PageStore>(&mut self, store: &P, extent: Extent) -> ArrayVec<Area, 16>
         requires { HasPages (P.pages store.now) (frame_places (frame_pages self.old.kept)) }
-        ensures updated { self.new ≡ record self.old { kept = (updated (state_with self.old (P.pages store.now)) extent.x extent.y extent.width extent.height).kept } }
-        ensures areas { ArePainted (updated_colours (state_with self.old (P.pages store.now)) extent.x extent.y extent.width extent.height) (definitions_of self.old.kept.screens) result.items }
+        ensures updated { self.new ≡ record self.old {
+          kept = (updated (state_with self.old (P.pages store.now)) extent.x extent.y extent.width
+              extent.height).kept;
+        } }
+        ensures areas { ArePainted (updated_colours
+            (state_with self.old (P.pages store.now)) extent.x extent.y extent.width extent.height)
+            (definitions_of self.old.kept.screens) result.items }
     {
         update_screens(
-            self.limits,
+            self.shape.limits(),
             self.shape.regions(),
             &mut self.screens,
             store,
@@ -234,47 +257,58 @@ impl Machine {
 
     /// DEFINE_SCREEN, which is admitted.
     fn define_screen(&mut self, def: ScreenDef)
-        requires { least_standing (shape_tests (shape_of self.old.kept) (commands.DefineScreen def)) ≡ None }
-        ensures { self.new ≡ record self.old { kept = record self.old.kept { screens = with_screen self.old.kept.screens def } } }
+        requires { IsAdmitted (shape_of self.old.kept) (commands.DefineScreen def) }
+        ensures { self.new ≡ record self.old {
+          kept = record self.old.kept
+              { screens = with_screen self.old.kept.screens def };
+        } }
     {
         self.shape.apply(&CommandRef::DefineScreen(def));
-        let _ = self.screens.define(&def);
+        self.screens.define_allowed(&def);
     }
 
     /// DESTROY_SCREEN, which is admitted.
     fn destroy_screen(&mut self, id: u32)
-        requires { least_standing (shape_tests (shape_of self.old.kept) (commands.DestroyScreen id)) ≡ None }
-        ensures { self.new ≡ record self.old { kept = record self.old.kept { screens = without_screen self.old.kept.screens id } } }
+        requires { IsAdmitted (shape_of self.old.kept) (commands.DestroyScreen id) }
+        ensures { self.new ≡ record self.old {
+          kept = record self.old.kept
+              { screens = without_screen self.old.kept.screens id };
+        } }
     {
         self.shape.apply(&CommandRef::DestroyScreen { id });
-        let _ = self.screens.destroy(id);
+        self.screens.destroy_allowed(id);
     }
 
     /// DEFINE_GMRFB, which is admitted.
     fn define_gmrfb(&mut self, gmrfb: Gmrfb)
-        requires { least_standing (shape_tests (shape_of self.old.kept) (commands.DefineGmrfb gmrfb)) ≡ None }
+        requires { IsAdmitted (shape_of self.old.kept) (commands.DefineGmrfb gmrfb) }
         ensures { self.new ≡ record self.old { kept = record self.old.kept { gmrfb = new_gmrfb gmrfb } } }
     {
         self.shape.apply(&CommandRef::DefineGmrfb(gmrfb));
-        self.gmrfb = named_gmrfb(gmrfb);
     }
 
     /// DEFINE_GMR2, which is admitted.
     fn define_region(&mut self, region: u32, pages: u32)
-        requires { least_standing (shape_tests (shape_of self.old.kept) (commands.DefineGmr2 region pages)) ≡ None }
-        ensures { self.new ≡ record self.old { kept = record self.old.kept { regions = with_region self.old.kept.regions region pages } } }
+        requires { IsAdmitted (shape_of self.old.kept) (commands.DefineGmr2 region pages) }
+        ensures { self.new ≡ record self.old {
+          kept = record self.old.kept
+              { regions = with_region self.old.kept.regions region pages };
+        } }
     {
         self.shape.apply(&CommandRef::DefineGmr2 { region, pages });
     }
 
     /// BLIT_GMRFB_TO_SCREEN, which is admitted.
     fn blit_to_screens<P: PageStore>(&mut self, store: &P, blit: &Blit) -> ArrayVec<Area, 16>
-        requires admitted { least_standing (shape_tests (shape_of self.old.kept) (commands.BlitToScreen blit.now)) ≡ None }
-        requires there { HasPages (P.pages store.now) (touched_places self.old.kept (commands.BlitToScreen blit.now)) }
-        ensures shown { self.new ≡ record self.old { kept = (shown (state_with self.old (P.pages store.now)) self.old.kept.gmrfb blit.now).kept } }
-        ensures areas { ArePainted (blit_colours (state_with self.old (P.pages store.now)) self.old.kept.gmrfb blit.now) (definitions_of self.old.kept.screens) result.items }
+        requires admitted { IsAdmitted (shape_of self.old.kept) (commands.BlitToScreen blit.now) }
+        requires there { HasPages (P.pages store.now)
+            (touched_places self.old.kept (commands.BlitToScreen blit.now)) }
+        ensures shown { self.new ≡ record self.old
+            { kept = (shown (state_with self.old (P.pages store.now)) self.old.kept.gmrfb blit.now).kept } }
+        ensures areas { ArePainted (blit_colours (state_with self.old (P.pages store.now)) self.old.kept.gmrfb
+            blit.now) (definitions_of self.old.kept.screens) result.items }
     {
-        match self.gmrfb {
+        match self.shape.gmrfb() {
             None => ArrayVec::new(),
             Some(gmrfb) => blit_to_screens(
                 self.shape.regions(),
@@ -289,13 +323,15 @@ impl Machine {
 
     /// BLIT_SCREEN_TO_GMRFB, which is admitted.
     fn blit_to_region<P: PageStore>(&mut self, store: &mut P, blit: &Blit)
-        requires admitted { least_standing (shape_tests (shape_of self.old.kept) (commands.BlitToGmrfb blit.now)) ≡ None }
-        requires there { HasPages (P.pages store.old) (touched_places self.old.kept (commands.BlitToGmrfb blit.now)) }
+        requires admitted { IsAdmitted (shape_of self.old.kept) (commands.BlitToGmrfb blit.now) }
+        requires there { HasPages (P.pages store.old)
+            (touched_places self.old.kept (commands.BlitToGmrfb blit.now)) }
         ensures machine { self.new ≡ self.old }
-        ensures written { P.pages store.new ≡ (read_back (state_with self.old (P.pages store.old)) self.old.kept.gmrfb blit.now).memory }
+        ensures written { P.pages store.new ≡ (read_back
+            (state_with self.old (P.pages store.old)) self.old.kept.gmrfb blit.now).memory }
         ensures rest { P.rest store.new ≡ P.rest store.old }
     {
-        if let Some(gmrfb) = self.gmrfb {
+        if let Some(gmrfb) = self.shape.gmrfb() {
             blit_to_region(
                 self.shape.regions(),
                 &self.screens,
@@ -317,10 +353,16 @@ impl Machine {
         entries: EntriesRef<'_>,
     ) -> Result<(), Fault>
         requires well_formed { IsWellFormed (commands.RemapGmr2 region offset pages (entries_of entries)) }
-        requires admitted { least_standing (shape_tests (shape_of self.old.kept) (commands.RemapGmr2 region offset pages (entries_of entries))) ≡ None }
-        requires there { HasPages (P.pages store.now) (touched_places self.old.kept (commands.RemapGmr2 region offset pages (entries_of entries))) }
-        ensures fault { result_err result ≡ fault_of (state_with self.old (P.pages store.now)) (Do (commands.RemapGmr2 region offset pages (entries_of entries.entry))) }
-        ensures ok { OnOk result (self.new ≡ record self.old { kept = (step (state_with self.old (P.pages store.now)) (Do (commands.RemapGmr2 region offset pages (entries_of entries.entry)))).kept }) }
+        requires admitted { IsAdmitted (shape_of self.old.kept)
+            (commands.RemapGmr2 region offset pages (entries_of entries)) }
+        requires there { HasPages (P.pages store.now)
+            (touched_places self.old.kept (commands.RemapGmr2 region offset pages (entries_of entries))) }
+        ensures fault { result_err result ≡ fault_of (state_with self.old (P.pages store.now))
+            (Do (commands.RemapGmr2 region offset pages (entries_of entries.entry))) }
+        ensures ok { OnOk result (self.new ≡ record self.old {
+          kept = (step (state_with self.old (P.pages store.now))
+              (Do (commands.RemapGmr2 region offset pages (entries_of entries.entry)))).kept;
+        }) }
         ensures err { OnErr result (self.new ≡ self.old) }
     {
         remap(

@@ -21,15 +21,19 @@ pub struct Ran {
 }
 
 impl Machine {
-    /// Runs commands one after another, and stops at the first that is refused. Of the store's pages it needs those
-    /// that stand in a region at some point of the run.
+    /// Runs commands one after another, and stops at the first that is refused. Of the store's pages it needs
+    /// those that stand in a region at some point of the run.
     pub fn run_all<P: PageStore>(&mut self, store: &mut P, commands: &[CommandRef<'_>]) -> Ran
         requires well_formed { All (λ c. IsWellFormed (command_of c)) commands.now }
-        requires there { (key : PageKey) → is_met (state_with self.old (P.pages store.old)) (lent_acts commands.now) key ≡ true → HasPage (P.pages store.old) key }
-        ensures run { state_with self.new (P.pages store.new) ≡ run (state_with self.old (P.pages store.old)) (lent_acts commands.now) }
-        ensures count { result.count ≡ done (state_with self.old (P.pages store.old)) (lent_acts commands.now) }
+        requires there { (key : PageKey) → is_met (state_with self.old (P.pages store.old))
+            (lent_acts commands.now) key ≡ true → HasPage (P.pages store.old) key }
+        ensures run { state_with self.new (P.pages store.new)
+            ≡ run (state_with self.old (P.pages store.old)) (lent_acts commands.now) }
+        ensures count { result.count ≡ done (state_with self.old (P.pages store.old))
+            (lent_acts commands.now) }
         // The fault is that of the command behind those that ran.
-        ensures fault { result.fault ≡ stopping_fault (state_with self.old (P.pages store.old)) (lent_acts commands.now) }
+        ensures fault { result.fault ≡ stopping_fault (state_with self.old (P.pages store.old))
+            (lent_acts commands.now) }
         // A chain that is begun stays so.
         ensures chain { self.new.chain ≡ self.old.chain }
         ensures rest { P.rest store.new ≡ P.rest store.old }

@@ -187,7 +187,8 @@ fn put_picture(display: &mut Display, key: PageKey) {
     put_words(display, key, &PICTURE.map(|colour| colour | 0xFF00_0000));
 }
 
-/// A machine with screen 0 of these sides at (0, 0), and with the picture in the framebuffer and on guest page 4.
+/// A machine with screen 0 of these sides at (0, 0), and with the picture in the framebuffer and on guest
+/// page 4.
 fn with_screen(alloc: Global, width: u32, height: u32) -> Result<Display, AllocError> {
     let mut display = Display::new(alloc, LIMITS)?;
     let _ = display.run(&screen(0, width, height, (0, 0)));
@@ -249,7 +250,8 @@ fn has_pages(machine: &Machine, region: u32, pages: &[u32]) -> bool {
     true
 }
 
-/// The GMRFB pixel goes with the rectangle's corner, which is off the screen: what is painted is shifted by it.
+/// The GMRFB pixel goes with the rectangle's corner, which is off the screen: what is painted is shifted by
+/// it.
 #[test]
 fn blits_at_a_corner(rt: HostRuntime) -> Result<(), Fail> {
     let mut display = with_screen(rt.alloc(), 4, 4)?;
@@ -285,8 +287,8 @@ fn pixel_over_two_places(rt: HostRuntime) -> Result<(), Fail> {
     Ok(())
 }
 
-/// Screens that share the virtual pixel (1, 0). A blit to all of them paints it on both, a blit to one on that one
-/// alone, and it is read from the screen with the lesser id.
+/// Screens that share the virtual pixel (1, 0). A blit to all of them paints it on both, a blit to one on
+/// that one alone, and it is read from the screen with the lesser id.
 #[test]
 fn screens_that_overlap(rt: HostRuntime) -> Result<(), Fail> {
     let mut display = with_screen(rt.alloc(), 2, 1)?;
@@ -327,7 +329,8 @@ fn screens_that_overlap(rt: HostRuntime) -> Result<(), Fail> {
     Ok(())
 }
 
-/// An UPDATE past the framebuffer's right and lower edges, on two screens, one of them at negative coordinates.
+/// An UPDATE past the framebuffer's right and lower edges, on two screens, one of them at negative
+/// coordinates.
 #[test]
 fn updates_past_the_edges(rt: HostRuntime) -> Result<(), Fail> {
     let mut display = with_screen(rt.alloc(), 8, 8)?;
@@ -361,7 +364,8 @@ fn updates_past_the_edges(rt: HostRuntime) -> Result<(), Fail> {
     Ok(())
 }
 
-/// A blit back whose second row runs over the end of a place into one that is the same page, where the first row is.
+/// A blit back whose second row runs over the end of a place into one that is the same page, where the
+/// first row is.
 #[test]
 fn last_byte_stands(rt: HostRuntime) -> Result<(), Fail> {
     let mut display = with_screen(rt.alloc(), 2, 2)?;
@@ -383,7 +387,8 @@ fn last_byte_stands(rt: HostRuntime) -> Result<(), Fail> {
     Ok(())
 }
 
-/// A region's remap by numbers that stand in it: all are read before a place changes, and a bad one changes none.
+/// A region's remap by numbers that stand in it: all are read before a place changes, and a bad one changes
+/// none.
 #[test]
 fn remaps_of_their_own_numbers(rt: HostRuntime) -> Result<(), Fail> {
     let mut display = Display::new(rt.alloc(), LIMITS)?;

@@ -4,21 +4,21 @@ use Rattle.std.proofs.lemmas.Grind.{same_number_lists}
 use Rattle.std.proofs.lemmas.List.{drop_more, get_or-take, get_or_append_left, get_or-append_right, get_or_past, get_or-replicate, length-replicate, take-append-drop}
 use Rattle.std.specs.Int.{cast_signed}
 use borrow.Author.Gap.{read_sfits}
-use Rattle.svga_cmd.specs.Reading.{command_in}
+use Rattle.svga_cmd.specs.Spelled.{command_in}
 use Rattle.svga_cmd.specs.Spelling.{spelling}
 use Rattle.svga_cmd.specs.WellFormed.{IsWellFormed}
 use Rattle.svga_cmd.specs.declared.command.Command.{Command}
 use Rattle.svga_cmd.specs.declared.command.Command.TheVariants.{Fence, DefineScreen, DefineGmrfb}
 use Rattle.svga_cmd.specs.declared.format.Format.TheVariants.{Bgrx32}
-use Rattle.svga_model.specs.Accepted.{AreWords, AreAccepted, IsPart}
+use Rattle.svga_model.specs.Accepted.{AreWords, AreAccepted, IsCommandPart}
 use Rattle.svga_model.specs.Lengths.{count_by_id, whole_length}
 use Rattle.svga_model.specs.RefusedWords.{refusal}
-use Rattle.svga_model.specs.Sentences.{IsBegun}
+use Rattle.svga_model.specs.Sentences.{IsCommandBegun}
 use Rattle.svga_model.proofs.GrammarComplete.{complete_spells}
 use Rattle.svga_model.proofs.GrammarTable.{le_or_lt, is_or_not, zero_accepted}
 
 -- words that agree with a spelling as far as they go, and are fewer
-agrees : (ws : List ℕ) (c : Command) → IsWellFormed c → length ws < length (spelling c) → ((i : ℕ) → i < length ws → slice_index ws i ≡ slice_index (spelling c) i) → IsBegun ws
+agrees : (ws : List ℕ) (c : Command) → IsWellFormed c → length ws < length (spelling c) → ((i : ℕ) → i < length ws → slice_index ws i ≡ slice_index (spelling c) i) → IsCommandBegun ws
 agrees ws c h l same = (
   c,
   slice_index (spelling c) (length ws),
@@ -53,7 +53,7 @@ zeros_accepted ws n h some no36 no34 i l = (λ t. refusal i (at_zeros ws n 0 t) 
 ]
 
 -- the words go on with zeros, up to their command's length
-begun_by_zeros : (ws : List ℕ) (n : ℕ) → AreWords ws → AreAccepted ws → 0 < length ws → slice_index ws 0 ≢ 36 → (slice_index ws 0 ≡ 34 → 1 < length ws) → length ws + suc n ≡ whole_length ws → IsBegun ws
+begun_by_zeros : (ws : List ℕ) (n : ℕ) → AreWords ws → AreAccepted ws → 0 < length ws → slice_index ws 0 ≢ 36 → (slice_index ws 0 ≡ 34 → 1 < length ws) → length ws + suc n ≡ whole_length ws → IsCommandBegun ws
 begun_by_zeros ws n w h some no36 no34 e = (command_in padded, 0, replicate n 0, complete_spells padded words (record { accepted = zeros_accepted ws (suc n) h some no36 no34; some = omega (arith, count); full = count ∙ e ∙ sym same })) where
   padded : List ℕ
   padded = ws ++ replicate (suc n) 0
@@ -67,13 +67,13 @@ begun_by_zeros ws n w h some no36 no34 e = (command_in padded, 0, replicate n 0,
   same : whole_length (ws ++ replicate (suc n) 0) ≡ whole_length ws
   same = λ t. count_by_id (at_zeros ws (suc n) 0 t) (at_zeros ws (suc n) 1 t) (at_zeros ws (suc n) 2 t) (at_zeros ws (suc n) 4 t)
 
-pub part_begun : (ws : List ℕ) → AreWords ws → IsPart ws → IsBegun ws
-part_begun ws w part = elim (le_or_lt (length ws) 0) as (λ _. IsBegun ws) [
+pub part_begun : (ws : List ℕ) → AreWords ws → IsCommandPart ws → IsCommandBegun ws
+part_begun ws w part = elim (le_or_lt (length ws) 0) as (λ _. IsCommandBegun ws) [
   | inl none ↦ agrees ws (Fence 0) tt (omega arith) (λ i k. absurd (omega arith))
-  | inr some ↦ elim (is_or_not (slice_index ws 0) 36) as (λ _. IsBegun ws) [
+  | inr some ↦ elim (is_or_not (slice_index ws 0) 36) as (λ _. IsCommandBegun ws) [
     | inl e ↦ agrees ws (gmrfb ws) tt (let m : length ws < 5 = rw e at part.short in m) (λ i k. gmrfb_same e i (let m : length ws < 5 = rw e at part.short in omega arith))
-    | inr no36 ↦ elim (le_or_lt (length ws) 1) as (λ _. IsBegun ws) [
-      | inl one ↦ elim (is_or_not (slice_index ws 0) 34) as (λ _. IsBegun ws) [
+    | inr no36 ↦ elim (le_or_lt (length ws) 1) as (λ _. IsCommandBegun ws) [
+      | inl one ↦ elim (is_or_not (slice_index ws 0) 34) as (λ _. IsCommandBegun ws) [
         | inl e ↦ agrees ws screen (record { x = read_sfits w32 0; y = read_sfits w32 0 }) (omega arith) (λ i k. ap (slice_index ws) (zero_is i k one) ∙ e ∙ ap (slice_index (spelling screen)) (sym (zero_is i k one)))
         | inr no34 ↦ zeros some no36 (λ e. absurd (no34 e))
       ]
@@ -103,5 +103,5 @@ part_begun ws w part = elim (le_or_lt (length ws) 0) as (λ _. IsBegun ws) [
     missing : (a b : ℕ) → a < b → a + suc (b - a - 1) ≡ b
     missing a b l = omega arith
 
-    zeros : 0 < length ws → slice_index ws 0 ≢ 36 → (slice_index ws 0 ≡ 34 → 1 < length ws) → IsBegun ws
+    zeros : 0 < length ws → slice_index ws 0 ≢ 36 → (slice_index ws 0 ≡ 34 → 1 < length ws) → IsCommandBegun ws
     zeros some no36 no34 = begun_by_zeros ws (whole_length ws - length ws - 1) w part.accepted some no36 no34 (missing (length ws) (whole_length ws) part.short)

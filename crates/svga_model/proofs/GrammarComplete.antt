@@ -5,13 +5,13 @@ use Rattle.std.proofs.lemmas.Int.{of_z-to_z}
 use Rattle.std.proofs.lemmas.List.{drop_more, drop_all, length-drop}
 use Rattle.std.specs.Int.{cast_signed}
 use borrow.Author.Gap.{read_sfits}
-use Rattle.svga_cmd.specs.Reading.{backing_in, blit_in, command_in, entries_in, screen_in, signed_at}
+use Rattle.svga_cmd.specs.Spelled.{backing_in, blit_in, command_in, entries_in, screen_in, signed_at}
 use Rattle.svga_cmd.specs.Spelling.{Spells}
-use Rattle.svga_cmd.specs.WellFormed.{HasEntries, HasSignedPlaces}
+use Rattle.svga_cmd.specs.WellFormed.{HasEntries, HasSignedNumbers}
 use Rattle.svga_cmd.specs.Words.{word_of, blit_words, struct_size, backing_words, flags_of, entry_words}
 use Rattle.svga_cmd.specs.declared.command.Command.TheVariants.{DefineScreen}
 use Rattle.svga_cmd.specs.declared.screen.Backing.{Backing}
-use Rattle.svga_model.specs.Accepted.{AreWords, IsComplete}
+use Rattle.svga_model.specs.Accepted.{AreWords, IsCommandWhole}
 use Rattle.svga_model.specs.Lengths.{entry_count}
 use Rattle.svga_model.specs.RefusedWords.{refusal}
 use Rattle.svga_model.proofs.GrammarTable.{IsKnown, update, fence, define_screen, destroy_screen, define_gmrfb, to_screen, to_gmrfb, define_gmr2, remap_gmr2, known, IsFlags, ppn32, via32, ppn64, via64, single32, single64, known_flags, few_pages, format_word-format_of}
@@ -37,7 +37,7 @@ blit_words-blit_in ws w e = drop-cells 8 0 ws (omega arith) ∙ (λ i. slice_ind
   same : (i : 𝕀) (k : ℕ) → ℕ
   same i k = sym (word_of-signed (slice_index ws k) (w k)) i
 
-signed_blit : (ws : List ℕ) → HasSignedPlaces (blit_in ws)
+signed_blit : (ws : List ℕ) → HasSignedNumbers (blit_in ws)
 signed_blit ws = record { x = read_sfits w32 _; y = read_sfits w32 _; left = read_sfits w32 _; top = read_sfits w32 _; right = read_sfits w32 _; bottom = read_sfits w32 _ }
 
 screen_size : (w n : ℕ) → refusal 1 34 w ≡ None → n ≡ (if w == 28 then 8 else 12) → ((w ≡ 28) × (n ≡ 8)) ⊎ ((w ≡ 44) × (n ≡ 12))
@@ -75,7 +75,7 @@ entry_words-entries_in ws pages (via64 f) e = let l : length ws ≡ 7 = rw f at 
 entry_words-entries_in ws pages (single32 f) e = let l : length ws ≡ 6 = rw f at e in rw f (drop-cells 1 5 ws (omega arith) ∙ (λ i. slice_index ws 5 ∷ nothing_behind 6 ws l i), refl, tt)
 entry_words-entries_in ws pages (single64 f) e = let l : length ws ≡ 7 = rw f at e in rw f (drop-cells 2 5 ws (omega arith) ∙ (λ i. slice_index ws 5 ∷ slice_index ws 6 ∷ nothing_behind 7 ws l i), refl, tt)
 
-pub complete_spells : (ws : List ℕ) → AreWords ws → IsComplete ws → Spells (command_in ws) ws
+pub complete_spells : (ws : List ℕ) → AreWords ws → IsCommandWhole ws → Spells (command_in ws) ws
 complete_spells ws w complete = at_id (known _ (complete.accepted 0 complete.some)) where
   -- word k isn't refused
   taken : (k id : ℕ) → slice_index ws 0 ≡ id → k < length ws → refusal k id (slice_index ws k) ≡ None

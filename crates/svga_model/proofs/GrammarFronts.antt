@@ -11,7 +11,7 @@ use Rattle.svga_cmd.specs.declared.command.Command.{Command}
 use Rattle.svga_cmd.specs.declared.command.Command.TheVariants.{Fence}
 use Rattle.svga_model.specs.Endings.{IsFront, fence_after, last_fence}
 use Rattle.svga_model.specs.Progress.{HasCome}
-use Rattle.svga_model.specs.Sentences.{Begins, IsBegun, IsViable, spelling_all}
+use Rattle.svga_model.specs.Sentences.{Begins, IsCommandBegun, IsViable, spelling_all}
 use Rattle.svga_model.proofs.GrammarPrefixes.{begun_has_none, same_first, shorter_front}
 use Rattle.svga_model.proofs.GrammarSpelled.{begun_begins}
 use Rattle.svga_model.proofs.GrammarTable.{le_or_lt}
@@ -22,7 +22,7 @@ spells c well = record { well_formed = well; words = refl }
 pub spelling_all-push : (cs : List Command) (c : Command) → spelling_all (cs ++ c ∷ []) ≡ spelling_all cs ++ spelling c
 spelling_all-push cs c = flat_map-append spelling cs (c ∷ []) ∙ ap (λ t. flat_map spelling cs ++ t) (append-nil (spelling c))
 
-pub nothing_begun : IsBegun []
+pub nothing_begun : IsCommandBegun []
 nothing_begun = (Fence 0, 30, 0 ∷ [], record { well_formed = tt; words = refl })
 
 -- no word has come
@@ -30,7 +30,7 @@ pub HasCome-nil : HasCome [] [] []
 HasCome-nil = record { well_formed = All-nil IsWellFormed; words = refl; begun = nothing_begun }
 
 -- a word has come with which a command has begun and isn't whole
-pub HasCome-more : (ws : List ℕ) (cs : List Command) (front : List ℕ) (word : ℕ) → HasCome ws cs front → IsBegun (front ++ word ∷ []) → HasCome (ws ++ word ∷ []) cs (front ++ word ∷ [])
+pub HasCome-more : (ws : List ℕ) (cs : List Command) (front : List ℕ) (word : ℕ) → HasCome ws cs front → IsCommandBegun (front ++ word ∷ []) → HasCome (ws ++ word ∷ []) cs (front ++ word ∷ [])
 HasCome-more ws cs front word come begun = record {
   well_formed = come.well_formed;
   words = ap (λ t. t ++ word ∷ []) come.words ∙ append_assoc (spelling_all cs) front (word ∷ []);
@@ -49,13 +49,13 @@ HasCome-whole ws cs front word c come s = record {
 abbrev pub HasNone : List ℕ → Type 0
 HasNone ws = (d : Command) (rest : List ℕ) → IsWellFormed d → ws ≡ spelling d ++ rest → ⊥
 
-pub begun_none : (ws : List ℕ) → IsBegun ws → HasNone ws
+pub begun_none : (ws : List ℕ) → IsCommandBegun ws → HasNone ws
 begun_none ws b d rest well e =
     let count : length ws ≡ length (spelling d) + length rest = ap length e ∙ length-append (spelling d) rest in
     begun_has_none ws [] (spelling d) rest d b (spells d well) (append-nil ws ∙ e) (omega arith)
 
 -- a word with which no command goes on, behind words that have begun, whatever follows
-pub refused_none : (front rest : List ℕ) (word : ℕ) → IsBegun front → (Begins (front ++ word ∷ []) → ⊥) → HasNone (front ++ word ∷ rest)
+pub refused_none : (front rest : List ℕ) (word : ℕ) → IsCommandBegun front → (Begins (front ++ word ∷ []) → ⊥) → HasNone (front ++ word ∷ rest)
 refused_none front rest word b refused d more well e = elim (le_or_lt (length (spelling d)) (length front)) as (λ _. ⊥) [
   | inl short ↦ begun_has_none front (word ∷ rest) (spelling d) more d b (spells d well) e short
   | inr long ↦
@@ -143,7 +143,7 @@ come_within (d ∷ ds) ws rest well e = elim (le_or_lt (length (spelling d)) (le
       ([], ws, record { well_formed = All-nil IsWellFormed; words = refl; begun = part d ws inside.0 (All-head IsWellFormed d ds well) inside.1 short })
 ]
   where
-    part : (d : Command) (ws more : List ℕ) → IsWellFormed d → spelling d ≡ ws ++ more → length ws < length (spelling d) → IsBegun ws
+    part : (d : Command) (ws more : List ℕ) → IsWellFormed d → spelling d ≡ ws ++ more → length ws < length (spelling d) → IsCommandBegun ws
     part d ws [] well e short = absurd (let same : length (spelling d) ≡ length ws = ap length (e ∙ append-nil ws) in omega arith)
     part d ws (word ∷ more) well e short = (d, word, more, record { well_formed = well; words = sym e })
 

@@ -1,8 +1,10 @@
--- One word more behind words that have begun: the command goes on, or it is whole, or the table refuses the word.
+-- One word more behind words that have begun: the command goes on, or it is whole, or the table refuses the
+-- word.
 use Rattle.std.proofs.Common.{◌≡◌, ℕ, ◌+◌, ◌≤◌, ◌<◌, ◌≢◌, List, length, take, slice_index, sym, subst, None, arith, inl, inr, below_more, length-take}
 use Rattle.std.proofs.lemmas.Grind.{common_steps}
 use Rattle.std.proofs.lemmas.List.{get_or-take}
-use Rattle.svga_model.specs.Accepted.{AreAccepted, IsPart, IsComplete}
+use Rattle.svga_cmd.specs.declared.constants.TheConstants.{MAX_COMMAND_WORDS}
+use Rattle.svga_model.specs.Accepted.{AreAccepted, IsCommandPart, IsCommandWhole}
 use Rattle.svga_model.specs.Lengths.{whole_length}
 use Rattle.svga_model.specs.RefusedWords.{refusal}
 use Rattle.svga_model.proofs.GrammarLengths.{one_at_least, one_more, whole_length-le}
@@ -20,7 +22,7 @@ each_more P n ws e h r i l = below_more (λ k. P k (slice_index ws 0) (slice_ind
 -- the first n words are a part of a command, and the table takes the one behind them
 pub record IsGrown (n : ℕ) (ws : List ℕ) : Type 0 where
   pub count : length ws ≡ n + 1
-  pub part : IsPart (take n ws)
+  pub part : IsCommandPart (take n ws)
   pub taken : refusal n (slice_index ws 0) (slice_index ws n) ≡ None
 
 grown_accepted : (n : ℕ) (ws : List ℕ) → IsGrown n ws → AreAccepted ws
@@ -40,15 +42,15 @@ grown_within n ws g = elim (le_or_lt n 0) as (λ _. length ws ≤ whole_length w
         (λ m. sym (get_or-take n ws 1 0 m)) (λ m. sym (get_or-take n ws 2 0 m)) (λ m. sym (get_or-take n ws 4 0 m))
         (known (slice_index ws 0) (grown_accepted n ws g 0 (omega (arith, g.count)))) some (rw (get_or-take n ws 0 0 some) at l)
 
-pub grown_complete : (n : ℕ) (ws : List ℕ) → IsGrown n ws → length ws ≡ whole_length ws → IsComplete ws
+pub grown_complete : (n : ℕ) (ws : List ℕ) → IsGrown n ws → length ws ≡ whole_length ws → IsCommandWhole ws
 grown_complete n ws g full = record { accepted = grown_accepted n ws g; some = omega (arith, g.count); full = full }
 
-pub grown_part : (n : ℕ) (ws : List ℕ) → IsGrown n ws → length ws ≢ whole_length ws → IsPart ws
+pub grown_part : (n : ℕ) (ws : List ℕ) → IsGrown n ws → length ws ≢ whole_length ws → IsCommandPart ws
 grown_part n ws g less = record { accepted = grown_accepted n ws g; short = omega (arith, grown_within n ws g, less) }
 
 -- a part leaves room for one word more
-pub part_room : (ws : List ℕ) → IsPart ws → length ws < 131077
-part_room ws part = elim (le_or_lt (length ws) 4) as (λ _. length ws < 131077) [
+pub part_room : (ws : List ℕ) → IsCommandPart ws → length ws < MAX_COMMAND_WORDS
+part_room ws part = elim (le_or_lt (length ws) 4) as (λ _. length ws < MAX_COMMAND_WORDS) [
   | inl few ↦ omega arith
   | inr many ↦ omega (arith, whole_length-le ws part.accepted many, part.short)
 ]

@@ -5,6 +5,7 @@ use Rattle.svga_cmd.specs.Spelling.{spelling}
 use Rattle.svga_cmd.specs.WellFormed.{IsWellFormed}
 use Rattle.svga_cmd.specs.declared.command.Command.{Command}
 use Rattle.svga_cmd.specs.declared.command.Command.TheVariants.{Update, Fence, DefineScreen, DestroyScreen, DefineGmrfb, BlitToScreen, BlitToGmrfb, DefineGmr2, RemapGmr2}
+use Rattle.svga_cmd.specs.declared.constants.TheConstants.{MAX_COMMAND_WORDS, MAX_ENTRY_WORDS, MAX_REMAP_PAGES}
 use Rattle.svga_cmd.specs.declared.remap.RemapData.{RemapData}
 use Rattle.svga_cmd.specs.declared.remap.RemapData.TheVariants.{Ppn32, Ppn64, SinglePpn32, SinglePpn64, ViaGmr32, ViaGmr64}
 use Rattle.svga_cmd.specs.declared.screen.Backing.{Backing}
@@ -14,10 +15,10 @@ use Rattle.svga_model.specs.Lengths.{count_by_id, entry_count, whole_length}
 use Rattle.svga_model.specs.RefusedWords.{refusal}
 use Rattle.svga_model.proofs.GrammarTable.{IsKnown, update, fence, define_screen, destroy_screen, define_gmrfb, to_screen, to_gmrfb, define_gmr2, remap_gmr2, known, few_pages, le_or_lt}
 
-entry_count-le : (flags pages : ℕ) → pages ≤ 65536 → entry_count flags pages ≤ 131072
+entry_count-le : (flags pages : ℕ) → pages ≤ MAX_REMAP_PAGES → entry_count flags pages ≤ MAX_ENTRY_WORDS
 entry_count-le flags pages h = grind (arith, nat_tests)
 
-count_by_id-le : (id size flags pages : ℕ) → (id ≡ 42 → pages ≤ 65536) → IsKnown id → count_by_id id size flags pages ≤ 131077
+count_by_id-le : (id size flags pages : ℕ) → (id ≡ 42 → pages ≤ MAX_REMAP_PAGES) → IsKnown id → count_by_id id size flags pages ≤ MAX_COMMAND_WORDS
 count_by_id-le id size flags pages h (update e) = rw e (omega arith)
 count_by_id-le id size flags pages h (fence e) = rw e (omega arith)
 count_by_id-le id size flags pages h (define_screen e) = rw e (grind (arith, nat_tests))
@@ -29,7 +30,7 @@ count_by_id-le id size flags pages h (define_gmr2 e) = rw e (omega arith)
 count_by_id-le id size flags pages h (remap_gmr2 e) = rw e (omega (arith, entry_count-le flags pages (h e)))
 
 -- no command is longer than 131,077 words
-pub whole_length-le : (ws : List ℕ) → AreAccepted ws → 4 < length ws → whole_length ws ≤ 131077
+pub whole_length-le : (ws : List ℕ) → AreAccepted ws → 4 < length ws → whole_length ws ≤ MAX_COMMAND_WORDS
 whole_length-le ws h five = count_by_id-le (slice_index ws 0) (slice_index ws 1) (slice_index ws 2) (slice_index ws 4)
     (λ e. few_pages (slice_index ws 4) (subst (λ id. refusal 4 id (slice_index ws 4) ≡ None) e (h 4 five))) (known (slice_index ws 0) (h 0 (omega arith)))
 

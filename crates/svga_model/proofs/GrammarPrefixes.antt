@@ -1,10 +1,10 @@
 -- Spellings in front of words: where two lists of words are one, the command at their front is one.
 use Rattle.std.proofs.Common.{◌≡◌, ℕ, ◌≤◌, List, [], ◌∷◌, ◌++◌, length, refl, ap, sym, subst, ◌∙◌, arith, length-append, append-nil, append_assoc}
-use Rattle.svga_cmd.proofs.ReadingLaws.{same_command}
+use Rattle.svga_cmd.proofs.SpelledLaws.{same_command}
 use Rattle.svga_cmd.specs.Spelling.{Spells}
 use Rattle.svga_cmd.specs.declared.command.Command.{Command}
 use Rattle.svga_model.specs.Lengths.{whole_length}
-use Rattle.svga_model.specs.Sentences.{IsBegun}
+use Rattle.svga_model.specs.Sentences.{IsCommandBegun}
 use Rattle.svga_model.proofs.GrammarSpelled.{whole_length-spelled}
 
 -- the shorter of two fronts of one list is a front of the longer
@@ -38,7 +38,7 @@ same_first c d xs ys a b s t e =
     (same_command c d xs s (subst (λ w. Spells d w) (sym same.0) t), same.1)
 
 -- words that have begun have no command at their front, whatever follows them
-pub begun_has_none : (ws rest ys a : List ℕ) (d : Command) → IsBegun ws → Spells d ys → ws ++ rest ≡ ys ++ a → length ys ≤ length ws → ⊥
+pub begun_has_none : (ws rest ys a : List ℕ) (d : Command) → IsCommandBegun ws → Spells d ys → ws ++ rest ≡ ys ++ a → length ys ≤ length ws → ⊥
 begun_has_none ws rest ys a d b t e l =
     let front = shorter_front ys ws a rest (sym e) l in
     let longer : (ws ++ b.1 ∷ b.2) ≡ ys ++ (front.0 ++ b.1 ∷ b.2) = ap (λ w. w ++ b.1 ∷ b.2) front.1 ∙ append_assoc ys front.0 (b.1 ∷ b.2) in
@@ -46,5 +46,5 @@ begun_has_none ws rest ys a d b t e l =
     omega (arith, same, length-append ws (b.1 ∷ b.2))
 
 -- of accepted words, those that spell a command haven't only begun one
-pub spelled_not_begun : (c : Command) (ws : List ℕ) → Spells c ws → IsBegun ws → ⊥
+pub spelled_not_begun : (c : Command) (ws : List ℕ) → Spells c ws → IsCommandBegun ws → ⊥
 spelled_not_begun c ws s b = begun_has_none ws [] ws [] c b s refl (omega arith)

@@ -1,8 +1,9 @@
 -- The table of refused words, read at one command or at one word.
 use Rattle.std.proofs.Common.{◌≡◌, ◌≢◌, ℕ, ◌≤◌, ◌<◌, ap, ◌∙◌, None, arith, ◌⊎◌, inl, inr}
 use Rattle.std.proofs.lemmas.Bool.Decides.{nat_tests}
-use Rattle.svga_cmd.specs.Reading.{format_of}
+use Rattle.svga_cmd.specs.Spelled.{format_of}
 use Rattle.svga_cmd.specs.Words.{format_word}
+use Rattle.svga_cmd.specs.declared.constants.TheConstants.{BGR24_WORD, BGRX32_WORD, MAX_REMAP_PAGES, RGB555_WORD, RGB565_WORD}
 use Rattle.svga_model.specs.RefusedWords.{refusal, refusal_of_id}
 
 pub le_or_lt : (n k : ℕ) → (n ≤ k) ⊎ (k < n)
@@ -42,7 +43,7 @@ pub data IsFlags (flags : ℕ) : Type 0 where
 pub known_flags : (flags : ℕ) → refusal 2 42 flags ≡ None → IsFlags flags
 known_flags flags h = grind (arith, nat_tests, ppn32, via32, ppn64, via64, single32, single64)
 
-pub few_pages : (pages : ℕ) → refusal 4 42 pages ≡ None → pages ≤ 65536
+pub few_pages : (pages : ℕ) → refusal 4 42 pages ≡ None → pages ≤ MAX_REMAP_PAGES
 few_pages pages h = grind (arith, nat_tests)
 
 pub format_word-format_of : (w : ℕ) → refusal 4 36 w ≡ None → format_word (format_of w) ≡ w
@@ -60,7 +61,7 @@ flags_accepted : (w : ℕ) → (w ≤ 4) ⊎ (w ≡ 6) → refusal 2 42 w ≡ No
 flags_accepted w (inl l) = grind (arith, nat_tests)
 flags_accepted w (inr e) = rw e
 
-pages_accepted : (w : ℕ) → w ≤ 65536 → refusal 4 42 w ≡ None
+pages_accepted : (w : ℕ) → w ≤ MAX_REMAP_PAGES → refusal 4 42 w ≡ None
 pages_accepted w l = grind (arith, nat_tests)
 
 elsewhere_34 : (i w : ℕ) → i ≢ 0 → i ≢ 1 → refusal i 34 w ≡ None
@@ -77,11 +78,11 @@ accepted_34 i w a b = elim (is_or_not i 1) as (λ _. refusal i 34 w ≡ None) [
 ]
 
 -- a word of DEFINE_GMRFB
-pub accepted_36 : (i w : ℕ) → i ≢ 0 → (i ≡ 4 → (w ≡ 0x1820) ⊎ ((w ≡ 0x1818) ⊎ ((w ≡ 0x1010) ⊎ (w ≡ 0x0F10)))) → refusal i 36 w ≡ None
+pub accepted_36 : (i w : ℕ) → i ≢ 0 → (i ≡ 4 → (w ≡ BGRX32_WORD) ⊎ ((w ≡ BGR24_WORD) ⊎ ((w ≡ RGB565_WORD) ⊎ (w ≡ RGB555_WORD)))) → refusal i 36 w ≡ None
 accepted_36 i w a b = grind (arith, nat_tests)
 
 -- a word of REMAP_GMR2
-pub accepted_42 : (i w : ℕ) → i ≢ 0 → (i ≡ 2 → (w ≤ 4) ⊎ (w ≡ 6)) → (i ≡ 4 → w ≤ 65536) → refusal i 42 w ≡ None
+pub accepted_42 : (i w : ℕ) → i ≢ 0 → (i ≡ 2 → (w ≤ 4) ⊎ (w ≡ 6)) → (i ≡ 4 → w ≤ MAX_REMAP_PAGES) → refusal i 42 w ≡ None
 accepted_42 i w a b c = elim (is_or_not i 2) as (λ _. refusal i 42 w ≡ None) [
   | inl e ↦ ap (λ k. refusal k 42 w) e ∙ flags_accepted w (b e)
   | inr n ↦ elim (is_or_not i 4) as (λ _. refusal i 42 w ≡ None) [

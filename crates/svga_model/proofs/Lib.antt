@@ -1,5 +1,5 @@
 pub mod ActLaws
-pub mod GrammarBadPlaces
+pub mod GrammarBadWords
 pub mod GrammarBegun
 pub mod GrammarComplete
 pub mod GrammarEndings
@@ -23,6 +23,7 @@ pub mod PixelsNone
 pub mod PutLaws
 pub mod ReplayLaws
 pub mod RunLaws
+pub mod ScriptBoundLaws
 pub mod ShapeLaws
 pub mod StandingLaws
 pub mod TabulatedLaws

@@ -7,6 +7,7 @@ use Rattle.std.specs.Option.{option_or}
 use Rattle.svga_cmd.specs.declared.command.Command.{Command}
 use Rattle.svga_cmd.specs.declared.command.Command.TheVariants.{Update, Fence, DefineScreen, DestroyScreen, DefineGmrfb, BlitToScreen, BlitToGmrfb, DefineGmr2, RemapGmr2}
 use Rattle.svga_cmd.specs.declared.blit.Blit.{Blit}
+use Rattle.svga_cmd.specs.declared.constants.TheConstants.{PAGE_SIZE}
 use Rattle.svga_cmd.specs.declared.gmrfb.Gmrfb.{Gmrfb}
 use Rattle.svga_model.proofs.PutLaws.{put_admissible}
 use Rattle.svga_model.proofs.RunLaws.{done-first, run-first, run_whole}
@@ -226,7 +227,7 @@ act_plain line (BlitBack b) = one_plain line _ refl
 act_plain line (act.Update x y width height) = one_plain line _ refl
 act_plain line NextFence = one_plain line CommitFence tt
 act_plain line (Write key offset bytes) = one_plain line (WritePage key offset bytes) tt
-act_plain line (Fill key byte) = one_plain line (WritePage key 0 (replicate 4096 byte)) tt
+act_plain line (Fill key byte) = one_plain line (WritePage key 0 (replicate PAGE_SIZE byte)) tt
 act_plain line (Lend key count) = all_plain line LendPage (keys_from key count) (λ k. tt)
 act_plain line (Take key count) = all_plain line TakePage (keys_from key count) (λ k. tt)
 act_plain line (Show key) = one_plain line (ShowPage key) tt

@@ -3,10 +3,11 @@ use Rattle.std.proofs.Common.{◌≡◌, ◌⊎◌, inl, inr, ℕ, zero, suc, �
 use Rattle.std.proofs.lemmas.Bool.Decides.{nat_tests}
 use Rattle.std.specs.FinMap as map
 use Rattle.std.specs.List.{list_any, range_with_len}
+use Rattle.svga_cmd.specs.declared.constants.TheConstants.{MAX_REGION_ID, REGION_IDS, SVGA_GMR_FRAMEBUFFER}
 use Rattle.svga_cmd.specs.declared.page.PageKey.{PageKey}
 use Rattle.svga_model.specs.Acts.{Act, Do, Put, Chain}
 use Rattle.svga_model.specs.Faults.{is_admissible}
-use Rattle.svga_model.specs.Regions.{Regions, defined_places, frame_places, frame_region, places_of}
+use Rattle.svga_model.specs.Regions.{Regions, defined_places, frame_places, places_of}
 use Rattle.svga_model.specs.Runs.{in_regions, is_met, on_walk}
 use Rattle.svga_model.specs.States.{Kept, State, frame_pages}
 use Rattle.svga_model.specs.Steps.{step}
@@ -37,10 +38,10 @@ no_page key has = cc has
 
 -- the id of a region with a page
 small_id : (regions : Regions) (id : ℕ) (key : PageKey)
-    → has_page (unwrap_or (defined_places regions id) []) key ≡ true → id < 4096
-small_id regions id key has = go (nat_lt 4095 id) refl has where
-  go : (over : Bool) → nat_lt 4095 id ≡ over
-      → has_page (unwrap_or (cond over None (map.get regions id)) []) key ≡ true → id < 4096
+    → has_page (unwrap_or (defined_places regions id) []) key ≡ true → id < REGION_IDS
+small_id regions id key has = go (nat_lt MAX_REGION_ID id) refl has where
+  go : (over : Bool) → nat_lt MAX_REGION_ID id ≡ over
+      → has_page (unwrap_or (cond over None (map.get regions id)) []) key ≡ true → id < REGION_IDS
   go true e h = absurd (no_page key h)
   go false e h = grind (arith, nat_tests, e)
 
@@ -49,7 +50,7 @@ in_frame : (k : Kept) (key : PageKey) → has_page (frame_places (frame_pages k)
 unfolding in_regions
 in_frame k key has =
     let id_has : ℕ → Bool = λ id. has_page (unwrap_or (defined_places k.regions id) []) key in
-    ap (λ b. b || list_any id_has (range_with_len 0 4096)) has
+    ap (λ b. b || list_any id_has (range_with_len 0 REGION_IDS)) has
 
 -- a page of a region that was defined
 in_defined : (k : Kept) (id : ℕ) (key : PageKey)
@@ -57,14 +58,14 @@ in_defined : (k : Kept) (id : ℕ) (key : PageKey)
 unfolding in_regions
 in_defined k id key has =
     any_behind (has_page (frame_places (frame_pages k)) key)
-    (λ i. has_page (unwrap_or (defined_places k.regions i) []) key) 4096 id (small_id k.regions id key has) has
+    (λ i. has_page (unwrap_or (defined_places k.regions i) []) key) REGION_IDS id (small_id k.regions id key has) has
 
 -- a page of the region with this id, if there is one
 in_some : (k : Kept) (id : Option ℕ) (key : PageKey)
     → has_page (unwrap_or (option_and_then (places_of (frame_pages k) k.regions) id) []) key ≡ true
     → in_regions k key ≡ true
 in_some k None key has = absurd (no_page key has)
-in_some k (Some id) key has = go (id == frame_region) has where
+in_some k (Some id) key has = go (id == SVGA_GMR_FRAMEBUFFER) has where
   go : (is_frame : Bool)
       → has_page (unwrap_or (cond is_frame (Some (frame_places (frame_pages k))) (defined_places k.regions id)) []) key
       ≡ true → in_regions k key ≡ true

@@ -49,7 +49,8 @@ agree_rest : (s t : State) (act : Act) (acts : List Act)
 agree_rest s t act acts kept admits agree key met =
     step_alike s t act key kept (agree_first s t act acts agree) (agree key (rest_met s act acts key admits met))
 
--- The runs of two states end at the same act, with the same fault, and with the same of each page that was the same.
+-- The runs of two states end at the same act, with the same fault, and with the same of each page that was
+-- the same.
 pub record RunAlike (s t : State) (acts : List Act) : Type 0 where
   pub ends : done s acts ≡ done t acts
   pub fault : (ys : List Act) (act : Act)

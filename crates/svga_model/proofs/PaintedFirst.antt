@@ -5,12 +5,13 @@ use Rattle.std.proofs.lemmas.Int.{ints}
 use Rattle.std.proofs.lemmas.List.Elements.{All-cons, All-nil}
 use Rattle.std.specs.List.{cons_option, range_with_len}
 use Rattle.svga_cmd.specs.declared.blit.Blit.{Blit}
+use Rattle.svga_cmd.specs.declared.constants.TheConstants.{SVGA_ID_INVALID}
 use Rattle.svga_cmd.specs.declared.gmrfb.Gmrfb.{Gmrfb}
 use Rattle.svga_cmd.specs.declared.screen.ScreenDef.{ScreenDef}
 use Rattle.svga_model.proofs.PaintedMembers.{in_filter_map, in_range}
 use Rattle.svga_model.proofs.PaintedPixels.{blit_pixel_is}
 use Rattle.svga_model.proofs.PaintedPlaces.{IsAt, covered_pixel, on_screen}
-use Rattle.svga_model.specs.BlitPixels.{BlitPixel, ScreenPixel, all_screens, blit_pixels, covered_on, covers}
+use Rattle.svga_model.specs.BlitPixels.{BlitPixel, ScreenPixel, blit_pixels, covered_on, covers}
 use Rattle.svga_model.specs.Members.{IsIn}
 
 -- what holds of each element holds of all
@@ -52,10 +53,10 @@ first_is_least f named from (suc count) q others e =
         omega arith
 
 -- a pixel of a screen that isn't given in virtual coordinates
-on_one_screen : (d : ScreenDef) (screen : ℕ) (X Y : ℤ) (q : ScreenPixel) → screen ≢ all_screens → IsAt d screen X Y q
+on_one_screen : (d : ScreenDef) (screen : ℕ) (X Y : ℤ) (q : ScreenPixel) → screen ≢ SVGA_ID_INVALID → IsAt d screen X Y q
     → (q.screen ≡ screen) × (pos q.x ≡ X) × (pos q.y ≡ Y)
 on_one_screen d screen X Y q one at =
-    let no : (screen == all_screens) ≡ false = grind (arith, nat_tests) in
+    let no : (screen == SVGA_ID_INVALID) ≡ false = grind (arith, nat_tests) in
     let named = subst (λ t. (t || screen == q.screen) ≡ true) no at.meant in
     let x = subst (λ t. cond t d.x (pos 0) +ℤ pos q.x ≡ X) no at.x in
     let y = subst (λ t. cond t d.y (pos 0) +ℤ pos q.y ≡ Y) no at.y in
@@ -67,7 +68,8 @@ module _ (definitions : ℕ → Option ScreenDef) where
   covered_first screen X Y = first_is_least (λ id. covered_on (definitions id) id screen X Y)
       (λ id s e. (on_screen (definitions id) id screen X Y s e).2) 0 16
 
-  -- each pixel of a blit covers some pixel of a screen, and the first of them is of the screen with the least id
+  -- each pixel of a blit covers some pixel of a screen, and the first of them is of the screen with the least
+  -- id
   pub least : (g : Gmrfb) (b : Blit) (p : BlitPixel) → IsIn p (blit_pixels definitions g b)
       → (q : ScreenPixel) × (others : List ScreenPixel) × (covers definitions b.screen p.x p.y ≡ q ∷ others)
       × All (λ r. q.screen < r.screen) others

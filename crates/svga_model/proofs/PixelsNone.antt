@@ -6,9 +6,10 @@ use Rattle.std.specs.Int.{int_gap}
 use Rattle.std.specs.List.{cons_option, filter_map, flat_map, range_with_len}
 use Rattle.std.specs.Prelude.{int_lt, negsuc, map, ◌+ℤ◌, ◌-ℤ◌, unsigned_abs}
 use Rattle.svga_cmd.specs.declared.blit.Blit.{Blit}
+use Rattle.svga_cmd.specs.declared.constants.TheConstants.{SVGA_ID_INVALID}
 use Rattle.svga_cmd.specs.declared.gmrfb.Gmrfb.{Gmrfb}
 use Rattle.svga_cmd.specs.declared.screen.ScreenDef.{ScreenDef}
-use Rattle.svga_model.specs.BlitPixels.{all_screens, blit_offset, blit_pixel, blit_pixels, corner_x, corner_y, covered_on, covers, int_range, is_in_area, is_meant, pixel_there}
+use Rattle.svga_model.specs.BlitPixels.{blit_offset, blit_pixel, blit_pixels, corner_x, corner_y, covered_on, covers, int_range, is_in_area, is_meant, pixel_there}
 
 -- a filter that lets no number of a range through
 pub filter_map-none_below : {Y : Type 0} (f : ℕ → Option Y) (from n : ℕ) → ((x : ℕ) → x < from + n → f x ≡ None) → filter_map f (range_with_len from n) ≡ []
@@ -54,25 +55,25 @@ covered-other (Some d) id screen X Y e =
     ap (λ t. cond (t && is_in_area x y d.width d.height X Y) (Some (record { screen = id; x = unsigned_abs (X -ℤ x); y = unsigned_abs (Y -ℤ y) })) None) e
 
 -- what is meant by an id that isn't that of all screens
-meant-one : (screen id : ℕ) → screen ≢ all_screens → (screen ≡ id) ⊎ (is_meant screen id ≡ false)
+meant-one : (screen id : ℕ) → screen ≢ SVGA_ID_INVALID → (screen ≡ id) ⊎ (is_meant screen id ≡ false)
 meant-one screen id one = elim (cases_eq screen id) as (λ _. (screen ≡ id) ⊎ (is_meant screen id ≡ false)) [
   | inl same ↦ inl same
   | inr other ↦ inr (grind (arith, nat_tests))
 ]
 
 -- no screen of these ids is covered where none is both meant and defined
-uncovered : (definitions : ℕ → Option ScreenDef) (screen : ℕ) (X Y : ℤ) → screen ≢ all_screens → definitions screen ≡ None → covers definitions screen X Y ≡ []
+uncovered : (definitions : ℕ → Option ScreenDef) (screen : ℕ) (X Y : ℤ) → screen ≢ SVGA_ID_INVALID → definitions screen ≡ None → covers definitions screen X Y ≡ []
 uncovered definitions screen X Y one none = filter_map-none (λ id. covered_on (definitions id) id screen X Y) (range_with_len 0 16) (λ id. at id (meant-one screen id one)) where
   at : (id : ℕ) → (screen ≡ id) ⊎ (is_meant screen id ≡ false) → covered_on (definitions id) id screen X Y ≡ None
   at id (inl same) = ap (λ o. covered_on o id screen X Y) (ap definitions (sym same) ∙ none)
   at id (inr other) = covered-other (definitions id) id screen X Y other
 
 -- a blit to a screen that isn't defined
-pub pixels-no_screen : (definitions : ℕ → Option ScreenDef) (g : Gmrfb) (b : Blit) → b.screen ≢ all_screens → definitions b.screen ≡ None → blit_pixels definitions g b ≡ []
+pub pixels-no_screen : (definitions : ℕ → Option ScreenDef) (g : Gmrfb) (b : Blit) → b.screen ≢ SVGA_ID_INVALID → definitions b.screen ≡ None → blit_pixels definitions g b ≡ []
 pixels-no_screen definitions g b one none = pixels-uncovered definitions g b (λ X Y. uncovered definitions b.screen X Y one none)
 
 -- a blit to an id that no screen can have
-pub pixels-screen_id : (definitions : ℕ → Option ScreenDef) (g : Gmrfb) (b : Blit) → 15 < b.screen → b.screen ≢ all_screens → blit_pixels definitions g b ≡ []
+pub pixels-screen_id : (definitions : ℕ → Option ScreenDef) (g : Gmrfb) (b : Blit) → 15 < b.screen → b.screen ≢ SVGA_ID_INVALID → blit_pixels definitions g b ≡ []
 pixels-screen_id definitions g b large one = pixels-uncovered definitions g b (λ X Y. filter_map-none_below (λ id. covered_on (definitions id) id b.screen X Y) 0 16 (at X Y)) where
   at : (X Y : ℤ) (id : ℕ) → id < 16 → covered_on (definitions id) id b.screen X Y ≡ None
   at X Y id small = covered-other (definitions id) id b.screen X Y (grind (arith, nat_tests))

@@ -3,10 +3,10 @@ use Rattle.std.proofs.Common.{◌≡◌, ℕ, suc, zero, List, [], ◌∷◌, �
 use Rattle.std.specs.List.{slice_get}
 use Rattle.svga_cmd.specs.Pages.{Memory, page_at}
 use Rattle.svga_cmd.specs.declared.command.Command.{Command}
+use Rattle.svga_cmd.specs.declared.ending.Ending.{Ending}
 use Rattle.svga_model.proofs.OnlyOthers.{others_by_puts}
 use Rattle.svga_model.proofs.OnlyRuns.{RunAlike, only_agrees, only_alike}
 use Rattle.svga_model.specs.Acts.{Act}
-use Rattle.svga_model.specs.Endings.{End}
 use Rattle.svga_model.specs.Faults.{fault_of}
 use Rattle.svga_model.specs.Replays.{IsWithinRegions, acts_of, replay_end}
 use Rattle.svga_model.specs.Runs.{done, only, puts, run, stopping_fault}
@@ -39,7 +39,7 @@ no_puts [] (suc n) m = refl
 no_puts (c ∷ cs) zero m = refl
 no_puts (c ∷ cs) (suc n) m = no_puts cs n m
 
-pub within_regions : (s : State) (cs : List Command) (end : End) → IsWithinRegions s cs end
+pub within_regions : (s : State) (cs : List Command) (end : Ending) → IsWithinRegions s cs end
 within_regions s cs end =
     let acts = acts_of cs in
     let alike = only_alike s acts in

@@ -7,6 +7,7 @@ use Rattle.svga_cmd.specs.Limits.{frame_page_count}
 use Rattle.svga_cmd.specs.Pages.{Memory}
 use Rattle.svga_cmd.specs.declared.command.Command.{Command}
 use Rattle.svga_cmd.specs.declared.command.Command.TheVariants.{Update, Fence, DefineScreen, DestroyScreen, DefineGmrfb, BlitToScreen, BlitToGmrfb, DefineGmr2, RemapGmr2}
+use Rattle.svga_cmd.specs.declared.constants.TheConstants.{MAX_REGION_ID, SVGA_GMR_FRAMEBUFFER, SVGA_GMR_NULL}
 use Rattle.svga_cmd.specs.declared.fault.Fault.{Fault}
 use Rattle.svga_cmd.specs.declared.fault.Fault.TheVariants as fault
 use Rattle.svga_cmd.specs.declared.remap.RemapData.TheVariants.{Ppn32, Ppn64, SinglePpn32, SinglePpn64, ViaGmr32, ViaGmr64}
@@ -15,15 +16,15 @@ use Rattle.svga_model.specs.Faults.{ReadsNumbers, act_tests, shape_tests}
 use Rattle.svga_model.specs.Memories.{region_byte}
 use Rattle.svga_model.specs.PointedNumbers.{Pointed, judged_in, needs_beyond, needs_unmapped, numbers_in, numbers_judged, pointed_by, pointer_tests}
 use Rattle.svga_model.specs.RegionBytes.{holds_of}
-use Rattle.svga_model.specs.Regions.{Places, Regions, defined_places, frame_places, frame_region, places_of, region_length, remap_tests}
+use Rattle.svga_model.specs.Regions.{Places, Regions, defined_places, frame_places, places_of, region_length, remap_tests}
 use Rattle.svga_model.specs.Standing.{least_standing}
 use Rattle.svga_model.specs.States.{State, shape_of}
 
 -- the tests of a remap by VIA_GMR, by their answers: three on the region, one on numbers, four on the pointer
 abbrev via : Bool → Bool → Bool → Bool → Bool → Bool → Bool → Bool → List (Bool × Fault)
-via none id range bad no_region region_id unmapped beyond =
+via none id range bad SVGA_GMR_NULL region_id unmapped beyond =
     (none, fault.NoRegion) ∷ (id, fault.RegionId) ∷ (range, fault.RangeBeyond) ∷ (bad, fault.BadPage)
-    ∷ (no_region, fault.NoRegion) ∷ (region_id, fault.RegionId) ∷ (unmapped, fault.Unmapped) ∷ (beyond, fault.BeyondRegion) ∷ []
+    ∷ (SVGA_GMR_NULL, fault.NoRegion) ∷ (region_id, fault.RegionId) ∷ (unmapped, fault.Unmapped) ∷ (beyond, fault.BeyondRegion) ∷ []
 
 -- what the numbers add to an answer: nothing to a fault, and at most their own fault to none
 abbrev pub Adds : Option Fault → Option Fault → Type 0
@@ -48,24 +49,24 @@ adds_none (Some f) = refl
 
 -- numbers are judged only where no rule on the pointer stands
 pub record IsGood (frame : ℕ) (regions : Regions) (at : Pointed) (pages : ℕ) : Type 0 where
-  pub defined : (nat_le at.region 4095 && is_none (defined_places regions at.region)) ≡ false
-  pub known : (nat_lt 4095 at.region && not (at.region == frame_region)) ≡ false
+  pub defined : (nat_le at.region MAX_REGION_ID && is_none (defined_places regions at.region)) ≡ false
+  pub known : (nat_lt MAX_REGION_ID at.region && not (at.region == SVGA_GMR_FRAMEBUFFER)) ≡ false
   pub mapped : holds_of (places_of frame regions at.region) (needs_unmapped at pages) ≡ false
   pub inside : holds_of (places_of frame regions at.region) (needs_beyond at pages) ≡ false
 
 -- a test for the id of a region that is there
-known_id : (frame : ℕ) (regions : Regions) (id : ℕ) (small same : Bool) (places : Places) → nat_le id 4095 ≡ small → (id == frame_region) ≡ same → places_of frame regions id ≡ Some places
-    → ((nat_le id 4095 && is_none (defined_places regions id)) ≡ false) × ((nat_lt 4095 id && not (id == frame_region)) ≡ false)
+known_id : (frame : ℕ) (regions : Regions) (id : ℕ) (small same : Bool) (places : Places) → nat_le id MAX_REGION_ID ≡ small → (id == SVGA_GMR_FRAMEBUFFER) ≡ same → places_of frame regions id ≡ Some places
+    → ((nat_le id MAX_REGION_ID && is_none (defined_places regions id)) ≡ false) × ((nat_lt MAX_REGION_ID id && not (id == SVGA_GMR_FRAMEBUFFER)) ≡ false)
 known_id frame regions id true true places l e there = absurd (grind (arith, nat_tests))
 known_id frame regions id true false places l e there =
     let is : defined_places regions id ≡ Some places = sym (ap (λ b. cond b (Some (frame_places frame)) (defined_places regions id)) e) ∙ there in
-    ((λ i. l i && is_none (is i)), ap (λ b. b && not (id == frame_region)) (let low : nat_lt 4095 id ≡ false = grind (arith, nat_tests) in low))
-known_id frame regions id false true places l e there = (ap (λ b. b && is_none (defined_places regions id)) l, (λ i. nat_lt 4095 id && not (e i)) ∙ and_false (nat_lt 4095 id)) where
+    ((λ i. l i && is_none (is i)), ap (λ b. b && not (id == SVGA_GMR_FRAMEBUFFER)) (let low : nat_lt MAX_REGION_ID id ≡ false = grind (arith, nat_tests) in low))
+known_id frame regions id false true places l e there = (ap (λ b. b && is_none (defined_places regions id)) l, (λ i. nat_lt MAX_REGION_ID id && not (e i)) ∙ and_false (nat_lt MAX_REGION_ID id)) where
   and_false : (b : Bool) → (b && false) ≡ false
   and_false true = refl
   and_false false = refl
 known_id frame regions id false false places l e there =
-    let high : nat_lt 4095 id ≡ true = grind (arith, nat_tests) in
+    let high : nat_lt MAX_REGION_ID id ≡ true = grind (arith, nat_tests) in
     let none : defined_places regions id ≡ None = ap (λ b. cond b None (map.get regions id)) high in
     let is : defined_places regions id ≡ Some places = sym (ap (λ b. cond b (Some (frame_places frame)) (defined_places regions id)) e) ∙ there in
     absurd (cc (none, is))
@@ -88,7 +89,7 @@ bad_good : (frame : ℕ) (regions : Regions) (m : Memory) (at : Pointed) (pages 
     → list_any (λ n. nat_le guest n) (judged_in m there at pages) ≡ true → IsGood frame regions at pages
 bad_good frame regions m at pages guest None e bad = absurd cc
 bad_good frame regions m at pages guest (Some places) e bad =
-    let id = known_id frame regions at.region (nat_le at.region 4095) (at.region == frame_region) places refl refl e in
+    let id = known_id frame regions at.region (nat_le at.region MAX_REGION_ID) (at.region == SVGA_GMR_FRAMEBUFFER) places refl refl e in
     let bytes = judged_good m places at pages guest (needs_unmapped at pages places) (needs_beyond at pages places) refl refl bad in record {
       defined = id.0;
       known = id.1;
@@ -104,17 +105,17 @@ pub numbers_add : (s : State) (id offset pages : ℕ) (at : Pointed) (bad : Bool
     ++ pointer_tests (frame_page_count s.kept.limits) s.kept.regions at pages))
 numbers_add s id offset pages at false e =
     let frame = frame_page_count s.kept.limits in
-    let none = nat_le id 4095 && is_none (defined_places s.kept.regions id) in
+    let none = nat_le id MAX_REGION_ID && is_none (defined_places s.kept.regions id) in
     let range = is_some (defined_places s.kept.regions id) && nat_lt (region_length s.kept.regions id) (offset + pages) in
-    subst (λ b. Adds (least_standing ((none, fault.NoRegion) ∷ (nat_lt 4095 id, fault.RegionId) ∷ (range, fault.RangeBeyond) ∷ (false, fault.BadPage) ∷ pointer_tests frame s.kept.regions at pages))
-    (least_standing ((none, fault.NoRegion) ∷ (nat_lt 4095 id, fault.RegionId) ∷ (range, fault.RangeBeyond) ∷ (b, fault.BadPage) ∷ pointer_tests frame s.kept.regions at pages)))
+    subst (λ b. Adds (least_standing ((none, fault.NoRegion) ∷ (nat_lt MAX_REGION_ID id, fault.RegionId) ∷ (range, fault.RangeBeyond) ∷ (false, fault.BadPage) ∷ pointer_tests frame s.kept.regions at pages))
+    (least_standing ((none, fault.NoRegion) ∷ (nat_lt MAX_REGION_ID id, fault.RegionId) ∷ (range, fault.RangeBeyond) ∷ (b, fault.BadPage) ∷ pointer_tests frame s.kept.regions at pages)))
     (sym e) (adds_none _)
 numbers_add s id offset pages at true e =
     let frame = frame_page_count s.kept.limits in
-    let none = nat_le id 4095 && is_none (defined_places s.kept.regions id) in
+    let none = nat_le id MAX_REGION_ID && is_none (defined_places s.kept.regions id) in
     let range = is_some (defined_places s.kept.regions id) && nat_lt (region_length s.kept.regions id) (offset + pages) in
     let good = bad_good frame s.kept.regions s.memory at pages s.kept.limits.pages (places_of frame s.kept.regions at.region) refl e in
-    added none (nat_lt 4095 id) range _ _ _ _ _ e good.defined good.known good.mapped good.inside
+    added none (nat_lt MAX_REGION_ID id) range _ _ _ _ _ e good.defined good.known good.mapped good.inside
   where
     added : (none id range bad a b c d : Bool) → bad ≡ true → a ≡ false → b ≡ false → c ≡ false → d ≡ false
         → Adds (least_standing (via none id range false a b c d)) (least_standing (via none id range bad a b c d))

@@ -3,6 +3,7 @@ use Rattle.std.proofs.Common.{◌≡◌, refl, sym, ap, subst, ◌∙◌, ℕ, [
 use Rattle.std.specs.FinMap as map
 use Rattle.svga_cmd.specs.declared.blit.Blit.{Blit}
 use Rattle.svga_cmd.specs.declared.command.Command.TheVariants.{Update, Fence, DefineScreen, DestroyScreen, DefineGmrfb, BlitToScreen, BlitToGmrfb, DefineGmr2, RemapGmr2}
+use Rattle.svga_cmd.specs.declared.constants.TheConstants.{MAX_DESCRIPTORS, MAX_REGION_ID}
 use Rattle.svga_cmd.specs.declared.fault.Fault.TheVariants as fault
 use Rattle.svga_cmd.specs.declared.gmrfb.Gmrfb.{Gmrfb}
 use Rattle.svga_cmd.specs.declared.page.PageKey.{PageKey}
@@ -72,7 +73,7 @@ chain_tests_same : (guest id first : ℕ) (regions : Regions) (a b : Tables)
     → AreSameAt a b (cond (first == 0) [] (walk guest a first))
     → chain_tests guest regions a id first ≡ chain_tests guest regions b id first
 chain_tests_same guest id first regions a b same =
-    ap (λ rules. (nat_lt 4095 id, fault.RegionId) ∷ rules) (go (nat_lt 4095 id) (first == 0) same)
+    ap (λ rules. (nat_lt MAX_REGION_ID id, fault.RegionId) ∷ rules) (go (nat_lt MAX_REGION_ID id) (first == 0) same)
   where
     go : (over none : Bool) → AreSameAt a b (cond none [] (walk guest a first))
         → cond (over || none) [] (given_tests regions id (walk_outcome guest a first))
@@ -100,7 +101,7 @@ chain_walk_same guest first a b same = go (first == 0) same where
   go : (none : Bool) → AreSameAt a b (cond none [] (walk guest a first))
       → cond none [] (walk guest a first) ≡ cond none [] (walk guest b first)
   go true same = refl
-  go false same = same_places 4096 guest a b (Some (record { table = first; pair = 0 })) same
+  go false same = same_places MAX_DESCRIPTORS guest a b (Some (record { table = first; pair = 0 })) same
 
 -- memories with the same on the pages of a chain's walk have the same tables there
 chain_tables : (k : Kept) (m n : Memory) (id first : ℕ)

@@ -1,6 +1,7 @@
 -- Memories that have the same on a region's pages give the same bytes of the region.
 use Rattle.std.proofs.Common.{◌≡◌, ℕ, zero, suc, ◌/◌, ◌%◌, refl, sym, ap, subst, [], ◌∷◌, Bool, true, false, ◌||◌, Option, Some, None, slice_index, slice_index_or, unwrap_or, option_map}
 use Rattle.std.specs.List.{list_any}
+use Rattle.svga_cmd.specs.declared.constants.TheConstants.{PAGE_SIZE}
 use Rattle.svga_cmd.specs.declared.page.PageKey.{PageKey}
 use Rattle.svga_cmd.specs.Pages.{Memory, page_at}
 use Rattle.svga_cmd.proofs.KeyLaws.{keys_total, keys_exact}
@@ -39,11 +40,11 @@ pub has_byte : (places : Places) (i : ℕ) (at : PageKey × ℕ)
     → byte_location places i ≡ Some at → has_page places at.0 ≡ true
 has_byte places i at e = go (page_of_byte places i) refl e where
   go : (o : Option PageKey) → page_of_byte places i ≡ o
-      → option_map (λ key. (key, i % 4096)) o ≡ Some at → has_page places at.0 ≡ true
+      → option_map (λ key. (key, i % PAGE_SIZE)) o ≡ Some at → has_page places at.0 ≡ true
   go None is e = cc
   go (Some key) is e =
-      let same : (key, i % 4096) ≡ at = cc in
-      subst (λ (p : PageKey × ℕ). has_page places p.0 ≡ true) same (has_place places (i / 4096) key is)
+      let same : (key, i % PAGE_SIZE) ≡ at = cc in
+      subst (λ (p : PageKey × ℕ). has_page places p.0 ≡ true) same (has_place places (i / PAGE_SIZE) key is)
 
 -- the byte at a location is the same where the page is
 same_byte : (m n : Memory) (o : Option (PageKey × ℕ))

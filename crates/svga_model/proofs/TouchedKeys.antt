@@ -5,10 +5,11 @@ use Rattle.std.specs.FinMap as map
 use Rattle.svga_cmd.specs.Limits.{frame_page_count}
 use Rattle.svga_cmd.specs.Pages.{IsKey}
 use Rattle.svga_cmd.specs.declared.command.Command.{Command}
+use Rattle.svga_cmd.specs.declared.constants.TheConstants.{MAX_REGION_ID, SVGA_GMR_FRAMEBUFFER}
 use Rattle.svga_cmd.specs.declared.limits.Limits.{Limits}
 use Rattle.svga_cmd.specs.declared.page.PageKey.TheVariants.{Frame}
 use Rattle.svga_model.proofs.ValidRules.{all_made}
-use Rattle.svga_model.specs.Regions.{Places, Regions, defined_places, frame_places, frame_region, places_of}
+use Rattle.svga_model.specs.Regions.{Places, Regions, defined_places, frame_places, places_of}
 use Rattle.svga_model.specs.States.{State, frame_pages}
 use Rattle.svga_model.specs.Touches.{touched_places, touched_region}
 use Rattle.svga_model.specs.ValidStates.{ArePlaces, AreRegions, IsState}
@@ -28,11 +29,11 @@ frame_keys l =
 -- and of any.
 region_keys : (l : Limits) (regions : Regions) (id : ℕ) → AreRegions l regions
     → ArePlaces l (unwrap_or (places_of (frame_page_count l) regions id) [])
-region_keys l regions id are = at (id == frame_region) where
+region_keys l regions id are = at (id == SVGA_GMR_FRAMEBUFFER) where
   at : (t : Bool)
       → ArePlaces l (unwrap_or (cond t (Some (frame_places (frame_page_count l))) (defined_places regions id)) [])
   at true = frame_keys l
-  at false = defined_keys l (nat_lt 4095 id) (map.get regions id) (are.each id)
+  at false = defined_keys l (nat_lt MAX_REGION_ID id) (map.get regions id) (are.each id)
 
 -- So are those of the region that a command touches, and there are none where it touches no region.
 pub touched_keys : (s : State) (c : Command) → IsState s → ArePlaces s.kept.limits (touched_places s.kept c)

@@ -2,6 +2,7 @@
 use Rattle.std.proofs.Common.{ℕ, ◌+◌, ◌*◌, ◌/◌, ◌%◌, ◌<◌, [], ◌∷◌, All, Some, None, IfSome, Bool, true, false, cond, arith}
 use Rattle.std.proofs.lemmas.List.Elements.{All-cons, All-nil}
 use Rattle.svga_cmd.specs.declared.blit.Blit.{Blit}
+use Rattle.svga_cmd.specs.declared.constants.TheConstants.{COLOURS}
 use Rattle.svga_cmd.specs.declared.format.Format.{Format}
 use Rattle.svga_cmd.specs.declared.format.Format.TheVariants.{Bgrx32, Bgr24, Rgb565, Rgb555}
 use Rattle.svga_cmd.specs.declared.gmrfb.Gmrfb.{Gmrfb}
@@ -12,7 +13,7 @@ use Rattle.svga_model.specs.Colours.{blue_of, bytes_of, colour_in_555, colour_in
 
 -- a colour of 24 bits
 abbrev pub IsColour : ℕ → Type 0
-IsColour c = c < 16777216
+IsColour c = c < COLOURS
 
 -- a byte of 8 bits
 abbrev pub IsByte : ℕ → Type 0

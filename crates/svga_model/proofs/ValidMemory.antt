@@ -12,6 +12,7 @@ use Rattle.svga_cmd.proofs.KeyLaws.{keys_exact, keys_total}
 use Rattle.svga_cmd.proofs.Maps.{apart, by_key, get_other, get_same, tied}
 use Rattle.svga_cmd.specs.Limits.{frame_page_count}
 use Rattle.svga_cmd.specs.Pages.{HasPage, IsKey, IsPage, Memory, key_cmp, page_at}
+use Rattle.svga_cmd.specs.declared.constants.TheConstants.{PAGE_SIZE}
 use Rattle.svga_cmd.specs.declared.limits.Limits.{Limits}
 use Rattle.svga_cmd.specs.declared.page.PageKey.{PageKey}
 use Rattle.svga_cmd.specs.declared.page.PageKey.TheVariants.{Guest, Frame}
@@ -183,23 +184,23 @@ all_are_keys l = All-append (IsKey l) (map_list Guest (range_with_len 0 l.pages)
     (all_made (IsKey l) Guest l.pages (λ k low. low)) (all_made (IsKey l) Frame (frame_page_count l) (λ k low. low))
 
 -- zeros
-zeros_page : IsPage (replicate 4096 0)
-zeros_page = record { length_is = length-replicate {A = ℕ} 4096 0; each = All-replicate IsByte 4096 0 (omega arith) }
+zeros_page : IsPage (replicate PAGE_SIZE 0)
+zeros_page = record { length_is = length-replicate {A = ℕ} PAGE_SIZE 0; each = All-replicate IsByte PAGE_SIZE 0 (omega arith) }
 
 -- what the opening memory has
-opening_page : (l : Limits) (key : PageKey) → page_at (opening_memory l) key ≡ found (replicate 4096 0) (all_keys l) key
+opening_page : (l : Limits) (key : PageKey) → page_at (opening_memory l) key ≡ found (replicate PAGE_SIZE 0) (all_keys l) key
 unfolding opening_memory
-opening_page l key = get-from_entries keys_total (map_list (λ key. (key, replicate 4096 0)) (all_keys l)) key
+opening_page l key = get-from_entries keys_total (map_list (λ key. (key, replicate PAGE_SIZE 0)) (all_keys l)) key
 
 -- it has each page of the device
 pub opening_has : (l : Limits) (key : PageKey) → IsKey l key → HasPage (opening_memory l) key
-opening_has l key is = ap is_some (opening_page l key ∙ found_in (replicate 4096 0) (all_keys l) key (in_all l key is))
+opening_has l key is = ap is_some (opening_page l key ∙ found_in (replicate PAGE_SIZE 0) (all_keys l) key (in_all l key is))
 
 -- and no others
 pub opening_pages : (l : Limits) → ArePages l (opening_memory l)
 opening_pages l = record {
-  keys = λ key has. found_only (replicate 4096 0) (IsKey l) (all_keys l) key (all_are_keys l)
+  keys = λ key has. found_only (replicate PAGE_SIZE 0) (IsKey l) (all_keys l) key (all_are_keys l)
       (sym (ap is_some (opening_page l key)) ∙ has);
   pages = λ key. subst (λ o. IfSome o IsPage) (sym (opening_page l key))
-      (found_page (replicate 4096 0) IsPage (all_keys l) key zeros_page);
+      (found_page (replicate PAGE_SIZE 0) IsPage (all_keys l) key zeros_page);
 }

@@ -8,6 +8,7 @@ use Rattle.std.specs.FinMap.{nat_cmp-IsAntisymmetric, get-empty}
 use Rattle.std.specs.Ordering.{nat_cmp}
 use Rattle.svga_cmd.proofs.Maps.{by_key, get_kept, get_other, get_removed, get_same}
 use Rattle.svga_cmd.specs.Pages.{IsKey}
+use Rattle.svga_cmd.specs.declared.constants.TheConstants.{MAX_PLACES, MAX_REGION_ID, REGION_IDS}
 use Rattle.svga_cmd.specs.declared.limits.Limits.{Limits}
 use Rattle.svga_cmd.specs.declared.page.PageKey.{PageKey}
 use Rattle.svga_cmd.specs.declared.page.PageKey.TheVariants.{Guest}
@@ -17,26 +18,26 @@ use Rattle.svga_model.specs.Standing.{least_standing}
 use Rattle.svga_model.specs.ValidStates.{ArePlaces, AreRegions}
 
 -- the list of a region that commands may define
-pub defined_small : (regions : Regions) (id : ℕ) → id ≤ 4095 → defined_places regions id ≡ map.get regions id
-defined_small regions id small = ap (λ t. cond t None (map.get regions id)) (not_over id 4095 small)
+pub defined_small : (regions : Regions) (id : ℕ) → id ≤ MAX_REGION_ID → defined_places regions id ≡ map.get regions id
+defined_small regions id small = ap (λ t. cond t None (map.get regions id)) (not_over id MAX_REGION_ID small)
 
 -- the length of a region by what is there
-length_by : (regions : Regions) (id : ℕ) (o : Option Places) → id ≤ 4095 → map.get regions id ≡ o
+length_by : (regions : Regions) (id : ℕ) (o : Option Places) → id ≤ MAX_REGION_ID → map.get regions id ≡ o
     → region_length regions id ≡ length (unwrap_or o [])
 length_by regions id o small is = ap (λ p. length (unwrap_or p [])) (defined_small regions id small ∙ is)
 
 -- regions with the same list have the same length
 length_same : (regions news : Regions) (id : ℕ) → map.get news id ≡ map.get regions id
     → region_length news id ≡ region_length regions id
-length_same regions news id same = ap (λ o. length (unwrap_or (cond (nat_lt 4095 id) None o) [])) same
+length_same regions news id same = ap (λ o. length (unwrap_or (cond (nat_lt MAX_REGION_ID id) None o) [])) same
 
 -- how many places there are after a change of one list
-pub place_count-changed : (regions news : Regions) (id : ℕ) → id ≤ 4095
+pub place_count-changed : (regions news : Regions) (id : ℕ) → id ≤ MAX_REGION_ID
     → ((q : ℕ) → q ≢ id → map.get news q ≡ map.get regions q)
     → place_count news + region_length regions id ≡ place_count regions + region_length news id
 unfolding place_count
 place_count-changed regions news id small same =
-    sum_changed (region_length regions) (region_length news) id 0 4096 (λ q ne. length_same regions news q (same q ne))
+    sum_changed (region_length regions) (region_length news) id 0 REGION_IDS (λ q ne. length_same regions news q (same q ne))
     (omega arith) (omega arith)
 
 -- where there is no list there are no places
@@ -47,8 +48,8 @@ nothing false o e = ap (λ p. length (unwrap_or p [])) e
 -- at first there is no place
 pub place_count-empty : place_count map.empty ≡ 0
 unfolding place_count
-place_count-empty = sum_nothing (region_length map.empty) 0 4096
-    (λ q. nothing (nat_lt 4095 q) (map.get map.empty q) (get-empty nat_cmp q))
+place_count-empty = sum_nothing (region_length map.empty) 0 REGION_IDS
+    (λ q. nothing (nat_lt MAX_REGION_ID q) (map.get map.empty q) (get-empty nat_cmp q))
 
 -- no region but the framebuffer's
 pub no_regions : (l : Limits) → AreRegions l map.empty
@@ -58,11 +59,11 @@ no_regions l = record {
   within = omega (arith, place_count-empty);
 }
 
-module _ (l : Limits) (regions : Regions) (id : ℕ) (small : id ≤ 4095) (are : AreRegions l regions) where
+module _ (l : Limits) (regions : Regions) (id : ℕ) (small : id ≤ MAX_REGION_ID) (are : AreRegions l regions) where
   -- regions of which one changes, with no more places than there is room for
   regions_changed : (news : Regions) (o : Option Places) → map.get news id ≡ o
       → ((q : ℕ) → q ≢ id → map.get news q ≡ map.get regions q)
-      → IfSome o (ArePlaces l) → place_count regions + length (unwrap_or o []) ≤ 65536 + region_length regions id
+      → IfSome o (ArePlaces l) → place_count regions + length (unwrap_or o []) ≤ MAX_PLACES + region_length regions id
       → AreRegions l news
   regions_changed news o here others places room = record {
     ids = λ q above. others q (λ e. absurd (omega (arith, small))) ∙ are.ids q above;
@@ -74,7 +75,7 @@ module _ (l : Limits) (regions : Regions) (id : ℕ) (small : id ≤ 4095) (are 
 
   -- a region with another list
   pub regions_inserted : (list : Places) → ArePlaces l list
-      → place_count regions + length list ≤ 65536 + region_length regions id → AreRegions l (map.insert regions id list)
+      → place_count regions + length list ≤ MAX_PLACES + region_length regions id → AreRegions l (map.insert regions id list)
   regions_inserted list = regions_changed (map.insert regions id list) (Some list)
       (get_same nat_cmp_total nat_cmp-IsAntisymmetric regions id list)
       (λ q. get_other nat_cmp_total nat_cmp-IsAntisymmetric regions id q list)
@@ -94,7 +95,7 @@ pub places_guest : (l : Limits) (numbers : List ℕ) → All (λ n. n < l.pages)
 places_guest l numbers few = All-map (λ place. IfSome place (IsKey l)) (λ n. Some (Guest n)) numbers few
 
 -- the places of a region, none where it isn't defined
-pub places_defined : (l : Limits) (regions : Regions) (id : ℕ) → id ≤ 4095 → AreRegions l regions
+pub places_defined : (l : Limits) (regions : Regions) (id : ℕ) → id ≤ MAX_REGION_ID → AreRegions l regions
     → ArePlaces l (unwrap_or (defined_places regions id) [])
 places_defined l regions id small are =
     subst (λ o. ArePlaces l (unwrap_or o [])) (sym (defined_small regions id small))
@@ -109,9 +110,9 @@ pub regions_defined : (l : Limits) (regions : Regions) (id pages : ℕ) → AreR
     → least_standing (define_tests regions id pages) ≡ None → AreRegions l (with_region regions id pages)
 regions_defined l regions id pages are none =
     let tests = all_false (define_tests regions id pages) none in
-    let small = at_most id 4095 tests.0 in
-    let room : places_with regions id pages ≤ 65536 = at_most (places_with regions id pages) 65536
-    (other_false (nat_le id 4095) (nat_lt 65536 (places_with regions id pages)) tests.1.0 (is_at_most id 4095 small)) in
+    let small = at_most id MAX_REGION_ID tests.0 in
+    let room : places_with regions id pages ≤ MAX_PLACES = at_most (places_with regions id pages) MAX_PLACES
+    (other_false (nat_le id MAX_REGION_ID) (nat_lt MAX_PLACES (places_with regions id pages)) tests.1.0 (is_at_most id MAX_REGION_ID small)) in
     elim (pages == 0)
     as (λ t. AreRegions l (cond t (map.remove regions id) (map.insert regions id (replicate pages None)))) [
       | true ↦ regions_removed l regions id small are
@@ -140,7 +141,7 @@ length-remapped places news offset fits = omega (
 )
 
 -- REMAP_GMR2 within a region, to pages of the guest
-pub regions_remapped : (l : Limits) (regions : Regions) (id offset : ℕ) (numbers : List ℕ) → id ≤ 4095
+pub regions_remapped : (l : Limits) (regions : Regions) (id offset : ℕ) (numbers : List ℕ) → id ≤ MAX_REGION_ID
     → AreRegions l regions → offset + length numbers ≤ region_length regions id → All (λ n. n < l.pages) numbers
     → AreRegions l (with_remap regions id offset numbers)
 regions_remapped l regions id offset numbers small are fits few =

@@ -7,6 +7,7 @@ use Rattle.svga_cmd.specs.Limits.{frame_page_count}
 use Rattle.svga_cmd.specs.Pages.{Memory}
 use Rattle.svga_cmd.specs.WellFormed.{HasEntries}
 use Rattle.svga_cmd.specs.declared.command.Command.TheVariants.{RemapGmr2}
+use Rattle.svga_cmd.specs.declared.constants.TheConstants.{MAX_REGION_ID, SVGA_GMR_FRAMEBUFFER}
 use Rattle.svga_cmd.specs.declared.remap.RemapData.{RemapData}
 use Rattle.svga_cmd.specs.declared.remap.RemapData.TheVariants.{Ppn32, Ppn64, SinglePpn32, SinglePpn64, ViaGmr32, ViaGmr64}
 use Rattle.svga_model.proofs.ValidRegions.{regions_remapped}
@@ -16,21 +17,21 @@ use Rattle.svga_model.specs.Faults.{act_tests, pointed_tests, remap_judged}
 use Rattle.svga_model.specs.Memories.{region_byte}
 use Rattle.svga_model.specs.PointedNumbers.{Pointed, judged_in, needs_beyond, needs_unmapped, number_at, numbers_at, numbers_in, numbers_judged, pointed, pointer_tests}
 use Rattle.svga_model.specs.RegionBytes.{holds_of}
-use Rattle.svga_model.specs.Regions.{Places, Regions, defined_places, frame_places, frame_region, joined_words, named_pages, places_of, range_pages, region_length, remap_tests, with_remap}
+use Rattle.svga_model.specs.Regions.{Places, Regions, defined_places, frame_places, joined_words, named_pages, places_of, range_pages, region_length, remap_tests, with_remap}
 use Rattle.svga_model.specs.Standing.{least_standing}
 use Rattle.svga_model.specs.States.{State}
 use Rattle.svga_model.specs.Steps.{remap_pages}
 use Rattle.svga_model.specs.ValidStates.{AreRegions}
 
 -- a region with such an id that the rules don't refuse is there
-region_defined : (regions : Regions) (id : ℕ) → id ≤ 4095
-    → (nat_le id 4095 && is_none (defined_places regions id)) ≡ false → is_some (defined_places regions id) ≡ true
+region_defined : (regions : Regions) (id : ℕ) → id ≤ MAX_REGION_ID
+    → (nat_le id MAX_REGION_ID && is_none (defined_places regions id)) ≡ false → is_some (defined_places regions id) ≡ true
 region_defined regions id small lacking = not_false (is_some (defined_places regions id))
-    (other_false (nat_le id 4095) (is_none (defined_places regions id)) lacking (is_at_most id 4095 small))
+    (other_false (nat_le id MAX_REGION_ID) (is_none (defined_places regions id)) lacking (is_at_most id MAX_REGION_ID small))
 
 -- what is known of a remap that the rules on its range and its numbers don't refuse
 pub record IsWithin (guest : ℕ) (regions : Regions) (id offset pages : ℕ) (numbers : List ℕ) : Type 0 where
-  pub small : id ≤ 4095
+  pub small : id ≤ MAX_REGION_ID
   pub fits : offset + pages ≤ region_length regions id
   pub few : All (λ n. n < guest) numbers
 
@@ -40,7 +41,7 @@ pub within : (guest : ℕ) (regions : Regions) (id offset pages : ℕ) (numbers 
     → IsWithin guest regions id offset pages numbers
 within guest regions id offset pages numbers none =
     let tests = all_false (remap_tests guest regions id offset pages numbers) none in
-    let small = at_most id 4095 tests.1.0 in
+    let small = at_most id MAX_REGION_ID tests.1.0 in
     let there = region_defined regions id small tests.0 in
     let long = nat_lt (region_length regions id) (offset + pages) in
     record {
@@ -60,15 +61,15 @@ judged_all m (Some places) at pages some mapped inside =
 
 -- a region that the rules don't refuse is there
 region_there : (frame : ℕ) (regions : Regions) (id : ℕ)
-    → (nat_le id 4095 && is_none (defined_places regions id)) ≡ false
-    → (nat_lt 4095 id && not (id == frame_region)) ≡ false
+    → (nat_le id MAX_REGION_ID && is_none (defined_places regions id)) ≡ false
+    → (nat_lt MAX_REGION_ID id && not (id == SVGA_GMR_FRAMEBUFFER)) ≡ false
     → is_some (places_of frame regions id) ≡ true
-region_there frame regions id lacking other = at (id == frame_region) refl where
-  at : (t : Bool) → (id == frame_region) ≡ t
+region_there frame regions id lacking other = at (id == SVGA_GMR_FRAMEBUFFER) refl where
+  at : (t : Bool) → (id == SVGA_GMR_FRAMEBUFFER) ≡ t
       → is_some (cond t (Some (frame_places frame)) (defined_places regions id)) ≡ true
   at true e = refl
   at false e =
-      region_defined regions id (at_most id 4095 (small (nat_lt 4095 id) (id == frame_region) other e)) lacking
+      region_defined regions id (at_most id MAX_REGION_ID (small (nat_lt MAX_REGION_ID id) (id == SVGA_GMR_FRAMEBUFFER) other e)) lacking
     where
       small : (b t : Bool) → (b && not t) ≡ false → t ≡ false → b ≡ false
       small b true e f = absurd cc

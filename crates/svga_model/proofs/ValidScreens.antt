@@ -12,6 +12,7 @@ use Rattle.std.specs.FinMap.{nat_cmp-IsAntisymmetric, get-empty}
 use Rattle.std.specs.List.{range_with_len}
 use Rattle.std.specs.Ordering.{nat_cmp}
 use Rattle.svga_cmd.proofs.Maps.{by_key, get_kept, get_other, get_removed, get_same}
+use Rattle.svga_cmd.specs.declared.constants.TheConstants.{COLOURS, MAX_SCREEN_SIDE}
 use Rattle.svga_cmd.specs.declared.screen.ScreenDef.{ScreenDef}
 use Rattle.svga_model.proofs.TabulatedLaws.{get-tabulated, get-tabulated_past}
 use Rattle.svga_model.proofs.ValidColours.{IsColour}
@@ -51,7 +52,7 @@ no_screens budget = record {
 }
 
 -- a side in its range
-side : (n : ℕ) → is_side n ≡ true → (0 < n) × (n ≤ 8192)
+side : (n : ℕ) → is_side n ≡ true → (0 < n) × (n ≤ MAX_SCREEN_SIDE)
 side n e = (grind (arith, nat_tests), grind (arith, nat_tests))
 
 -- a black screen is one
@@ -200,7 +201,7 @@ module _ (colour : ℕ → ScreenDef → ℕ → ℕ → Option ℕ) (budget : �
 colour_on-good : (id : ℕ) (o : Option Screen) (x y : ℕ) → IfSome o (IsScreen id) → IsColour (colour_on o x y)
 colour_on-good id None x y h = omega arith
 colour_on-good id (Some s) x y h = elim (cases_lt y (length s.rows)) as (λ _. IsColour (slice_index (row_at s y) x)) [
-  | inl within ↦ index_under 16777216 (row_at s y) x (omega arith) (h.colours y [] within)
+  | inl within ↦ index_under COLOURS (row_at s y) x (omega arith) (h.colours y [] within)
   | inr past ↦ subst (λ row. IsColour (slice_index row x)) (sym (get_or_past s.rows y [] past)) (omega arith)
 ]
 

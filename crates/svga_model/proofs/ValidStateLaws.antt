@@ -7,6 +7,7 @@ use Rattle.svga_cmd.specs.WellFormed.{IsWellFormed}
 use Rattle.svga_cmd.specs.declared.blit.Blit.{Blit}
 use Rattle.svga_cmd.specs.declared.command.Command.{Command}
 use Rattle.svga_cmd.specs.declared.command.Command.TheVariants.{Update, Fence, DefineScreen, DestroyScreen, DefineGmrfb, BlitToScreen, BlitToGmrfb, DefineGmr2, RemapGmr2}
+use Rattle.svga_cmd.specs.declared.constants.TheConstants.{MAX_REGION_ID, SVGA_GMR_FRAMEBUFFER, SVGA_GMR_NULL}
 use Rattle.svga_cmd.specs.declared.gmrfb.Gmrfb.{Gmrfb}
 use Rattle.svga_cmd.specs.declared.limits.Limits.{Limits}
 use Rattle.svga_cmd.specs.declared.page.PageKey.{PageKey}
@@ -21,9 +22,9 @@ use Rattle.svga_model.specs.Acts.{Act, Do, Put, Chain, IsAct}
 use Rattle.svga_model.specs.BlitEffects.{blit_colour, blit_writes, first_colour, repainted_screens, update_colour}
 use Rattle.svga_model.specs.BlitPixels.{BlitPixel, blit_pixels, covers}
 use Rattle.svga_model.specs.Colours.{bytes_of}
-use Rattle.svga_model.specs.Faults.{IsAdmissible, act_tests, fault_of, gmrfb_tests, no_region}
+use Rattle.svga_model.specs.Faults.{IsAdmissible, act_tests, fault_of, gmrfb_tests}
 use Rattle.svga_model.specs.Memories.{ByteWrite, region_byte, writes_from, written}
-use Rattle.svga_model.specs.Regions.{Regions, frame_places, frame_region}
+use Rattle.svga_model.specs.Regions.{Regions, frame_places}
 use Rattle.svga_model.specs.Screens.{AreScreens, Screens, definitions_of}
 use Rattle.svga_model.specs.Standing.{least_standing}
 use Rattle.svga_model.specs.States.{State, frame_pages, opening_state, with_regions, with_screens}
@@ -79,14 +80,14 @@ gmrfb_good s g is good = record {
 }
 
 -- a region that no rule refuses for a GMRFB is one that it may have
-region_good : (region : ℕ) → (nat_lt 4095 region && not (region == frame_region) && not (region == no_region)) ≡ false
-    → (region == no_region) ≡ false → (region ≤ 4095) ⊎ (region ≡ frame_region)
+region_good : (region : ℕ) → (nat_lt MAX_REGION_ID region && not (region == SVGA_GMR_FRAMEBUFFER) && not (region == SVGA_GMR_NULL)) ≡ false
+    → (region == SVGA_GMR_NULL) ≡ false → (region ≤ MAX_REGION_ID) ⊎ (region ≡ SVGA_GMR_FRAMEBUFFER)
 region_good region free there = grind (arith, nat_tests)
 
 -- DEFINE_GMRFB
 new_gmrfb-good : (g : Gmrfb) → least_standing (gmrfb_tests g.region) ≡ None → IfSome (new_gmrfb g) IsGmrfb
-new_gmrfb-good g none = at (g.region == no_region) refl where
-  at : (t : Bool) → (g.region == no_region) ≡ t → IfSome (cond t None (Some g)) IsGmrfb
+new_gmrfb-good g none = at (g.region == SVGA_GMR_NULL) refl where
+  at : (t : Bool) → (g.region == SVGA_GMR_NULL) ≡ t → IfSome (cond t None (Some g)) IsGmrfb
   at true e = tt
   at false e = region_good g.region (all_false (gmrfb_tests g.region) none).0 e
 

@@ -6,6 +6,7 @@ use Rattle.std.specs.FinMap as map
 use Rattle.std.specs.FinMap.{nat_cmp-IsAntisymmetric}
 use Rattle.svga_cmd.proofs.Maps.{is_remove}
 use Rattle.svga_cmd.specs.declared.command.Command.TheVariants.{DefineGmr2}
+use Rattle.svga_cmd.specs.declared.constants.TheConstants.{MAX_PLACES, MAX_REGION_ID}
 use Rattle.svga_cmd.specs.declared.fault.Fault.{Fault}
 use Rattle.svga_cmd.specs.declared.fault.Fault.TheVariants.{RegionId, PlaceLimit}
 use Rattle.svga_model.specs.Acts.{Do}
@@ -19,25 +20,25 @@ use Rattle.svga_model.specs.Worked.{after}
 neither : (t u : Bool) (f g : Fault) → t ≡ false → u ≡ false → least_standing ((t, f) ∷ (u, g) ∷ []) ≡ None
 neither t u f g first second = rw (first, second) refl
 
-small_id : (id : ℕ) → id ≤ 4095 → nat_lt 4095 id ≡ false
+small_id : (id : ℕ) → id ≤ MAX_REGION_ID → nat_lt MAX_REGION_ID id ≡ false
 small_id id small = grind (arith, nat_tests)
 
-room : (id count length pages : ℕ) → count + pages ≤ 65536
-    → (nat_le id 4095 && nat_lt 65536 (count - length + pages)) ≡ false
+room : (id count length pages : ℕ) → count + pages ≤ MAX_PLACES
+    → (nat_le id MAX_REGION_ID && nat_lt MAX_PLACES (count - length + pages)) ≡ false
 room id count length pages few = grind (arith, nat_tests)
 
 -- a definition for which there is room
-pub define_admissible : (s : State) (id pages : ℕ) → id ≤ 4095 → place_count s.kept.regions + pages ≤ 65536
+pub define_admissible : (s : State) (id pages : ℕ) → id ≤ MAX_REGION_ID → place_count s.kept.regions + pages ≤ MAX_PLACES
     → IsAdmissible s (Do (DefineGmr2 id pages))
 unfolding fault_of
 define_admissible s id pages small few =
-    neither (nat_lt 4095 id) (nat_le id 4095 && nat_lt 65536 (places_with regions id pages))
+    neither (nat_lt MAX_REGION_ID id) (nat_le id MAX_REGION_ID && nat_lt MAX_PLACES (places_with regions id pages))
     RegionId PlaceLimit (small_id id small) (room id (place_count regions) (region_length regions id) pages few)
   where
     regions : Regions
     regions = s.kept.regions
 
-pub empty_admissible : (s : State) (region : ℕ) → region ≤ 4095 → place_count s.kept.regions ≤ 65536
+pub empty_admissible : (s : State) (region : ℕ) → region ≤ MAX_REGION_ID → place_count s.kept.regions ≤ MAX_PLACES
     → IsAdmissible s (Do (DefineGmr2 region 0))
 empty_admissible s region small few = define_admissible s region 0 small (omega arith)
 

@@ -7,6 +7,7 @@ use Rattle.std.specs.List.{list_any, range_with_len}
 use Rattle.std.proofs.lemmas.Bool.Decides.{nat_tests}
 use Rattle.svga_cmd.specs.declared.blit.Blit.{Blit}
 use Rattle.svga_cmd.specs.declared.command.Command.TheVariants.{BlitToGmrfb, BlitToScreen}
+use Rattle.svga_cmd.specs.declared.constants.TheConstants.{PAGE_SIZE, SVGA_ID_INVALID}
 use Rattle.svga_cmd.specs.declared.fault.Fault.{Fault}
 use Rattle.svga_cmd.specs.declared.fault.Fault.TheVariants as fault
 use Rattle.svga_cmd.specs.declared.gmrfb.Gmrfb.{Gmrfb}
@@ -15,7 +16,7 @@ use Rattle.svga_cmd.specs.declared.screen.ScreenDef.{ScreenDef}
 use Rattle.svga_model.specs.Acts.{Act, Do}
 use Rattle.svga_model.specs.BlitFaults.{blit_tests, gmrfb_places, is_negative, is_on_unmapped, is_outside}
 use Rattle.svga_model.specs.BlitFaults.{some_byte, some_gmrfb_byte}
-use Rattle.svga_model.specs.BlitPixels.{all_screens, blit_pixels}
+use Rattle.svga_model.specs.BlitPixels.{blit_pixels}
 use Rattle.svga_model.specs.Colours.{pixel_length}
 use Rattle.svga_model.specs.Faults.{IsAdmissible, fault_of}
 use Rattle.svga_model.specs.RegionBytes.{is_beyond, page_of_byte}
@@ -40,7 +41,7 @@ blit_rules definitions gmrfb places b =
     ∷ (some_gmrfb_byte definitions gmrfb places b is_on_unmapped, fault.Unmapped)
     ∷ (is_none gmrfb, fault.NoGmrfb)
     ∷ (nat_le b.screen 15 && is_none (definitions b.screen), fault.NoScreen)
-    ∷ (nat_lt 15 b.screen && not (b.screen == all_screens), fault.ScreenId)
+    ∷ (nat_lt 15 b.screen && not (b.screen == SVGA_ID_INVALID), fault.ScreenId)
     ∷ (is_negative b.rect, fault.NegativeSide)
     ∷ (some_gmrfb_byte definitions gmrfb places b is_outside, fault.BeyondRegion) ∷ []
 
@@ -82,7 +83,7 @@ none_of t u less (x ∷ xs) e = neither (t x) (list_any t xs) (less x (or_left (
 
 -- byte i isn't one of a region's first place
 abbrev pub is_far : ℤ → Bool
-is_far i = int_lt i (pos 0) || nat_le 4096 (unsigned_abs i)
+is_far i = int_lt i (pos 0) || nat_le PAGE_SIZE (unsigned_abs i)
 
 near_inside : (place : Option PageKey) (places : Places) (i : ℤ) → is_far i ≡ false → is_outside (place ∷ places) i ≡ false
 near_inside place places i near = grind (arith, nat_tests)
@@ -95,11 +96,11 @@ near_mapped key places i near = last_false (not (int_lt i (pos 0))) (not (is_bey
     n : ℕ
     n = unsigned_abs i
 
-    below : is_far i ≡ false → n < 4096
+    below : is_far i ≡ false → n < PAGE_SIZE
     below near = grind (arith, nat_tests)
 
-    first : n / 4096 ≡ 0
-    first = let low : n < 4096 = below near in omega arith
+    first : n / PAGE_SIZE ≡ 0
+    first = let low : n < PAGE_SIZE = below near in omega arith
 
     last_false : (p q r : Bool) → r ≡ false → (p && (q && r)) ≡ false
     last_false true true r e = e
@@ -121,7 +122,7 @@ module _ (definitions : ℕ → Option ScreenDef) (g : Gmrfb) (b : Blit) (near :
 
   -- a blit may be done if its bytes lie on the region's first place, and that is a page
   pub near_blit : (nat_le b.screen 15 && is_none (definitions b.screen)) ≡ false
-      → (nat_lt 15 b.screen && not (b.screen == all_screens)) ≡ false → is_negative b.rect ≡ false
+      → (nat_lt 15 b.screen && not (b.screen == SVGA_ID_INVALID)) ≡ false → is_negative b.rect ≡ false
       → (s : State) (key : PageKey) (places : Places) → IsSetUp s g (Some key ∷ places) definitions → MayBlit s b
   near_blit there id sides s key places set_up = may_blit s g (Some key ∷ places) definitions b set_up
       (rw (

@@ -9,6 +9,7 @@ use Rattle.std.proofs.lemmas.Bool.Decides.{nat_tests}
 use Rattle.svga_cmd.proofs.Maps.{get_same}
 use Rattle.svga_cmd.specs.Pages.{page_at}
 use Rattle.svga_cmd.specs.declared.command.Command.TheVariants.{BlitToScreen}
+use Rattle.svga_cmd.specs.declared.constants.TheConstants.{MAX_PLACES}
 use Rattle.svga_cmd.specs.declared.fault.Fault.{Fault}
 use Rattle.svga_cmd.specs.declared.fault.Fault.TheVariants as fault
 use Rattle.svga_cmd.specs.declared.page.PageKey.TheVariants.{Guest}
@@ -102,7 +103,7 @@ split_act = Do (BlitToScreen pixel_blit) ∷ []
 abbrev pub split_acts : List Act
 split_acts = Do remap_both ∷ split_act
 
-pub split_done : (s : State) → IsSplit s → place_count s.kept.regions + 2 ≤ 65536 → 4 < s.kept.limits.pages
+pub split_done : (s : State) → IsSplit s → place_count s.kept.regions + 2 ≤ MAX_PLACES → 4 < s.kept.limits.pages
     → done s (Do define_two ∷ split_acts) ≡ 3
 split_done s is few small = done_more s (Do define_two) split_acts 2 (define_admissible s 1 2 (omega arith) few)
     (done_more (after s define_two) (Do remap_both) split_act 1 (remap_admissible s small)

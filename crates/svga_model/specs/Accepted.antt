@@ -1,4 +1,5 @@
--- Words of one command as the table of refused words sees them. They are what begins a spelling, or is one: see proofs/.
+-- Words of one command as the table of refused words sees them. They are what
+-- begins a spelling, or is one: see proofs/.
 use Rattle.std.specs.Prelude.{◌≡◌, ℕ, ◌<◌, ◌^◌, List, length, slice_index, None}
 use Rattle.svga_model.specs.Lengths.{whole_length}
 use Rattle.svga_model.specs.RefusedWords.{refusal}
@@ -12,12 +13,12 @@ abbrev pub AreAccepted : List ℕ → Type 0
 AreAccepted ws = (i : ℕ) → i < length ws → refusal i (slice_index ws 0) (slice_index ws i) ≡ None
 
 -- the words are accepted, and more belong to their command
-pub record IsPart (ws : List ℕ) : Type 0 where
+pub record IsCommandPart (ws : List ℕ) : Type 0 where
   pub accepted : AreAccepted ws
   pub short : length ws < whole_length ws
 
 -- the words are accepted, and a whole command
-pub record IsComplete (ws : List ℕ) : Type 0 where
+pub record IsCommandWhole (ws : List ℕ) : Type 0 where
   pub accepted : AreAccepted ws
   pub some : 0 < length ws
   pub full : length ws ≡ whole_length ws

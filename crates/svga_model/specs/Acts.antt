@@ -6,7 +6,8 @@ use Rattle.svga_cmd.specs.declared.command.Command.{Command}
 use Rattle.svga_cmd.specs.declared.limits.Limits.{Limits}
 use Rattle.svga_cmd.specs.declared.page.PageKey.{PageKey}
 
--- a command; a page that the client gives other bytes; a descriptor chain for a region, by its first table page
+-- a command; a page that the client gives other bytes; a descriptor chain
+-- for a region, by its first table page
 pub data Act : Type 0 where
   Do : Command → Act
   Put : PageKey → List ℕ → Act

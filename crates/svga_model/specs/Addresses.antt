@@ -5,6 +5,7 @@ use Rattle.std.specs.Prelude.{ℕ, ◌+◌, ◌-◌, ◌*◌, ◌/◌, ◌%◌}
 abbrev pub dwords_between : ℕ → ℕ → ℕ
 dwords_between low high = (high - low) / 4
 
--- the address of word n, counted over all words ever sent, in a ring of so many dwords from byte offset low on
+-- the address of word n, counted over all words ever sent, in a ring of
+-- so many dwords from byte offset low on
 abbrev pub address : ℕ → ℕ → ℕ → ℕ
 address low dwords n = low + 4 * (n % dwords)

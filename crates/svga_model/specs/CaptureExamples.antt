@@ -29,7 +29,8 @@ small_with k w = bytes_from (slice_set small k w)
 abbrev pub small_regions : ℕ → List ℕ → List ℕ
 small_regions count records = bytes_from (header 20 count 0 ++ ring ++ records)
 
--- A ring of three words from byte 16 on, of which two wait: from STOP, byte 24, round its end to NEXT_CMD, byte 20.
+-- A ring of three words from byte 16 on, of which two wait: from STOP, byte
+-- 24, round its end to NEXT_CMD, byte 20.
 abbrev pub wrapped : List ℕ
 wrapped = bytes_from (header 28 0 0 ++ 16 ∷ 28 ∷ 20 ∷ 24 ∷ 7 ∷ 8 ∷ 9 ∷ [])
 

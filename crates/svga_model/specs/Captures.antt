@@ -4,11 +4,14 @@ use Rattle.std.specs.FinMap as map
 use Rattle.std.specs.List.{range_with_len}
 use Rattle.std.specs.Option.{option_or}
 use Rattle.svga_cmd.specs.Pages.{Memory}
+use Rattle.svga_cmd.specs.declared.capture_cause.CaptureCause.{CaptureCause}
+use Rattle.svga_cmd.specs.declared.capture_cause.CaptureCause.TheVariants.{Long}
+use Rattle.svga_cmd.specs.declared.constants.TheConstants.{PAGE_RECORD_SIZE, SVGA_FIFO_FENCE, UNMAPPED_WORD}
 use Rattle.svga_cmd.specs.declared.limits.Limits.{Limits}
 use Rattle.svga_cmd.specs.declared.page.PageKey.{PageKey}
 use Rattle.svga_cmd.specs.declared.page.PageKey.TheVariants.{Guest}
 use Rattle.svga_model.specs.Addresses.{address, dwords_between}
-use Rattle.svga_model.specs.CaptureFields.{Flaw, Long, RegionRecord, capture_end, capture_fields, fifo_word, first_flaw, key_of_word, limits_in, min_in, next_in, page_record_at, page_count, region_records, ring_end, stop_in, unmapped_word}
+use Rattle.svga_model.specs.CaptureFields.{RegionRecord, capture_end, capture_fields, fifo_word, first_flaw, key_of_word, limits_in, min_in, next_in, page_record_at, page_count, region_records, ring_end, stop_in}
 use Rattle.svga_model.specs.Memories.{with_page}
 use Rattle.svga_model.specs.Regions.{Places, Regions}
 use Rattle.svga_model.specs.States.{State, opening_memory}
@@ -24,11 +27,12 @@ pub record Capture : Type 0 where
 
 -- the place of a word in a region's record
 abbrev pub place_of_word : ℕ → Option PageKey
-place_of_word w = if w == unmapped_word then None else Some (Guest w)
+place_of_word w = if w == UNMAPPED_WORD then None else Some (Guest w)
 
 -- the list of a region
 abbrev pub listed_places : List ℕ → RegionRecord → Places
-listed_places bytes r = map_list (λ k. place_of_word (little_word bytes (r.at + 8 + 4 * k))) (range_with_len 0 r.count)
+listed_places bytes r =
+    map_list (λ k. place_of_word (little_word bytes (r.at + 8 + 4 * k))) (range_with_len 0 r.count)
 
 abbrev pub listed_regions : List ℕ → Regions
 listed_regions bytes = map.from_entries (map_list (λ r. (r.id, listed_places bytes r)) (region_records bytes))
@@ -38,20 +42,29 @@ abbrev pub listed_key : List ℕ → ℕ → PageKey
 listed_key bytes j = key_of_word (little_word bytes (page_record_at bytes j))
 
 abbrev pub listed_bytes : List ℕ → ℕ → List ℕ
-listed_bytes bytes j = slice_range bytes (page_record_at bytes j + 4) (page_record_at bytes j + 4100)
+listed_bytes bytes j =
+    slice_range bytes (page_record_at bytes j + 4) (page_record_at bytes j + PAGE_RECORD_SIZE)
 
 -- pages of zeros, but for those with records
 abbrev pub listed_memory : List ℕ → Memory
-listed_memory bytes = fold (λ m j. with_page m (listed_key bytes j) (listed_bytes bytes j)) (opening_memory (limits_in bytes)) (range_with_len 0 (page_count bytes))
+listed_memory bytes =
+    fold (λ m j. with_page m (listed_key bytes j) (listed_bytes bytes j)) (opening_memory (limits_in bytes))
+    (range_with_len 0 (page_count bytes))
 
 -- the opening fence: word 6 of the FIFO where MIN is above 24, else 0
 abbrev pub fence_in : List ℕ → ℕ
-fence_in bytes = if nat_lt 24 (min_in bytes) then fifo_word bytes 6 else 0
+fence_in bytes = if nat_lt (4 * SVGA_FIFO_FENCE) (min_in bytes) then fifo_word bytes SVGA_FIFO_FENCE else 0
 
 -- the state before the words: no GMRFB is defined and no screen
 abbrev pub opening_in : List ℕ → State
 opening_in bytes = record {
-  kept = record { limits = limits_in bytes; regions = listed_regions bytes; gmrfb = None; screens = map.empty; fence = fence_in bytes };
+  kept = record {
+    limits = limits_in bytes;
+    regions = listed_regions bytes;
+    gmrfb = None;
+    screens = map.empty;
+    fence = fence_in bytes;
+  };
   memory = listed_memory bytes;
 }
 
@@ -60,25 +73,34 @@ abbrev pub waiting : ℕ → ℕ → ℕ → ℕ → ℕ
 waiting min max next stop = if nat_le stop next then next - stop else (max - stop) + (next - min)
 
 -- the words from STOP to NEXT_CMD round the ring
-abbrev pub words_in : List ℕ → List ℕ
-words_in bytes =
+abbrev pub waiting_words : List ℕ → List ℕ
+waiting_words bytes =
     let dwords = dwords_between (min_in bytes) (ring_end bytes) in
     let first = dwords_between (min_in bytes) (stop_in bytes) in
-    map_list (λ k. little_word bytes (36 + address (min_in bytes) dwords (first + k))) (range_with_len 0 (waiting (min_in bytes) (ring_end bytes) (next_in bytes) (stop_in bytes) / 4))
+    map_list (λ k. little_word bytes (36 + address (min_in bytes) dwords (first + k)))
+    (range_with_len 0 (waiting (min_in bytes) (ring_end bytes) (next_in bytes) (stop_in bytes) / 4))
 
 -- what the bytes hold, if they are a capture
 abbrev pub held : List ℕ → Capture
-held bytes = record { min = min_in bytes; max = ring_end bytes; limits = limits_in bytes; opening = opening_in bytes; words = words_in bytes }
+held bytes = record {
+  min = min_in bytes;
+  max = ring_end bytes;
+  limits = limits_in bytes;
+  opening = opening_in bytes;
+  words = waiting_words bytes;
+}
 
 -- what is wrong with the bytes: the first field that is, or what follows the last one
-abbrev pub flaw_in : List ℕ → Option (ℕ × Flaw)
-flaw_in bytes = option_or (first_flaw bytes (capture_fields bytes)) (if nat_lt (capture_end bytes) (length bytes) then Some (capture_end bytes, Long) else None)
+abbrev pub flaw_in : List ℕ → Option (ℕ × CaptureCause)
+flaw_in bytes =
+    option_or (first_flaw bytes (capture_fields bytes))
+    (if nat_lt (capture_end bytes) (length bytes) then Some (capture_end bytes, Long) else None)
 
 -- a capture, unless there is a flaw
-abbrev pub captured : Option (ℕ × Flaw) → Capture → Result Capture (ℕ × Flaw)
+abbrev pub captured : Option (ℕ × CaptureCause) → Capture → Result Capture (ℕ × CaptureCause)
 captured None c = Ok c
 captured (Some flaw) c = Err flaw
 
 -- the capture that bytes are, or the byte at which they are none and why
-unfoldable pub capture_of : List ℕ → Result Capture (ℕ × Flaw)
+unfoldable pub capture_of : List ℕ → Result Capture (ℕ × CaptureCause)
 capture_of bytes = captured (flaw_in bytes) (held bytes)

@@ -7,8 +7,8 @@ use Rattle.svga_cmd.specs.declared.page.PageKey.{PageKey}
 pub data ClientFault : Type 0 where
   -- the command or the chain has this fault
   Refused : Fault → ClientFault
-  -- a page that is touched isn't lent; a page is lent, or isn't; no fence stands behind the last command that touches it;
-  -- there is no such page, or not so many bytes of it
+  -- a page that is touched isn't lent; a page is lent, or isn't; no fence stands behind the last command that
+  -- touches it; there is no such page, or not so many bytes of it
   PageOut : PageKey → ClientFault
   PageLent : PageKey → ClientFault
   NotLent : PageKey → ClientFault

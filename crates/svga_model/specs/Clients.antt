@@ -1,19 +1,20 @@
--- A client of a device, each of whose calls is done at once: its state, when a call is refused, and what it does.
+-- A client of a device, each of whose calls is done at once: its state,
+-- when a call is refused, and what it does.
 use Rattle.std.specs.Prelude.{◌≡◌, ℕ, suc, ◌+◌, List, [], ◌∷◌, ◌++◌, length, take, drop, Bool, false, true, nat_lt, nat_le, ◌==◌, ◌&&◌, not, if◌then◌else◌, Option, Some, None, option_map}
 use Rattle.std.specs.FinMap as map
 use Rattle.std.specs.FinMap.{FinMap}
 use Rattle.std.specs.FinSet as set
 use Rattle.std.specs.FinSet.{FinSet}
 use Rattle.std.specs.Option.{option_or}
-use Rattle.svga_cmd.specs.Pages.{key_cmp}
+use Rattle.svga_cmd.specs.Pages.{is_key, key_cmp}
 use Rattle.svga_cmd.specs.declared.command.Command.{Command}
 use Rattle.svga_cmd.specs.declared.command.Command.TheVariants.{Fence}
+use Rattle.svga_cmd.specs.declared.constants.TheConstants.{MAX_REGION_ID, PAGE_SIZE}
 use Rattle.svga_cmd.specs.declared.fault.Fault.TheVariants as fault
 use Rattle.svga_cmd.specs.declared.limits.Limits.{Limits}
 use Rattle.svga_cmd.specs.declared.page.PageKey.{PageKey}
 use Rattle.svga_cmd.specs.declared.page.PageKey.TheVariants.{Guest}
 use Rattle.svga_model.specs.Acts.{Act, Do, Put, Chain}
-use Rattle.svga_model.specs.CaptureFields.{is_key}
 use Rattle.svga_model.specs.ClientActs.{Call, Commit, CommitFence, DescribeRegion, LendPage, ShowPage, TakePage, WritePage}
 use Rattle.svga_model.specs.ClientFaults.{ClientFault, NoFence, NotLent, PageLent, PageOut, PageRange, Refused, first_true}
 use Rattle.svga_model.specs.Faults.{fault_of}
@@ -31,12 +32,19 @@ pub record Client : Type 0 where
   pub state : State
   -- the commands so far
   pub commands : List Command
-  -- the pages that are lent, and for each of them the place of the last command since its lend that touches it, if one does
+  -- the pages that are lent, and for each of them the number of the last command since
+  -- its lend that touches it, if one does
   pub lent : FinSet key_cmp
   pub touched : FinMap key_cmp ℕ
 
 abbrev pub opening_client : Limits → ℕ → Client
-opening_client l first = record { first = first; state = opening_state l first; commands = []; lent = set.empty; touched = map.empty }
+opening_client l first = record {
+  first = first;
+  state = opening_state l first;
+  commands = [];
+  lent = set.empty;
+  touched = map.empty;
+}
 
 -- the number of the next fence
 abbrev pub next_fence : Client → ℕ
@@ -51,27 +59,29 @@ first_out lent (Some key ∷ places) = if set.contains lent key then first_out l
 -- the first of these table pages that isn't lent
 abbrev pub first_table_out : FinSet key_cmp → List ℕ → Option PageKey
 first_table_out lent [] = None
-first_table_out lent (p ∷ pages) = if set.contains lent (Guest p) then first_table_out lent pages else Some (Guest p)
+first_table_out lent (p ∷ pages) =
+    if set.contains lent (Guest p) then first_table_out lent pages else Some (Guest p)
 
 -- When a command is refused: for its fault, else for a page that it touches and that is with the client.
 abbrev pub commit_refusal : Client → Command → Option ClientFault
 commit_refusal c command =
-    option_or (option_map Refused (fault_of c.state (Do command))) (option_map PageOut (first_out c.lent (touched_places c.state.kept command)))
+    option_or (option_map Refused (fault_of c.state (Do command)))
+    (option_map PageOut (first_out c.lent (touched_places c.state.kept command)))
 
 -- when a page can't be had, of which so many bytes are meant
 abbrev pub page_tests : Client → PageKey → ℕ → List (Bool × ClientFault)
 page_tests c key bytes =
-    (not (is_key c.state.kept.limits key && nat_le bytes 4096), PageRange key)
+    (not (is_key c.state.kept.limits key && nat_le bytes PAGE_SIZE), PageRange key)
     ∷ (set.contains c.lent key, PageLent key) ∷ []
 
--- a command at this place touches the page, and no fence stands behind it
+-- the command with this number touches the page, and no fence stands behind it
 abbrev pub is_empty : {X : Type 0} → List X → Bool
 is_empty [] = true
 is_empty (x ∷ xs) = false
 
 abbrev pub is_unfenced : List Command → Option ℕ → Bool
 is_unfenced commands None = false
-is_unfenced commands (Some place) = is_empty (fences (drop (suc place) commands))
+is_unfenced commands (Some number) = is_empty (fences (drop (suc number) commands))
 
 -- when a page can't be taken back
 abbrev pub take_tests : Client → PageKey → List (Bool × ClientFault)
@@ -80,11 +90,11 @@ take_tests c key =
     ∷ (not (set.contains c.lent key), NotLent key)
     ∷ (is_unfenced c.commands (map.get c.touched key), NoFence key) ∷ []
 
--- When a chain is refused: for its region or its first page, else for the first table page that its walk enters and that is
--- with the client, else for its fault.
+-- When a chain is refused: for its region or its first page, else for the first table page that its walk
+-- enters and that is with the client, else for its fault.
 abbrev pub start_refusals : Client → ℕ → ℕ → List (Bool × ClientFault)
 start_refusals c id first =
-    (nat_lt 4095 id, Refused fault.RegionId)
+    (nat_lt MAX_REGION_ID id, Refused fault.RegionId)
     ∷ (not (first == 0) && nat_le c.state.kept.limits.pages first, Refused fault.BadPage) ∷ []
 
 abbrev pub describe_refusal : Client → ℕ → ℕ → Option ClientFault
@@ -111,17 +121,19 @@ over_written old offset bytes = take offset old ++ bytes ++ drop (offset + lengt
 abbrev pub act_of : Client → Call → Option Act
 act_of c (Commit command) = Some (Do command)
 act_of c CommitFence = Some (Do (Fence (next_fence c)))
-act_of c (WritePage key offset bytes) = Some (Put key (over_written (page_bytes c.state.memory key) offset bytes))
+act_of c (WritePage key offset bytes) =
+    Some (Put key (over_written (page_bytes c.state.memory key) offset bytes))
 act_of c (LendPage key) = None
 act_of c (TakePage key) = None
 act_of c (ShowPage key) = None
 act_of c (DescribeRegion id first) = Some (Chain id first)
 
--- the places of the last commands, once the command at this place touches what stands in these places of its region
+-- the numbers of the last commands, once the command with this number touches
+-- what stands in these places of its region
 abbrev pub marked : Places → ℕ → FinMap key_cmp ℕ → FinMap key_cmp ℕ
-marked [] place touched = touched
-marked (None ∷ places) place touched = marked places place touched
-marked (Some key ∷ places) place touched = marked places place (map.insert touched key place)
+marked [] number touched = touched
+marked (None ∷ places) number touched = marked places number touched
+marked (Some key ∷ places) number touched = marked places number (map.insert touched key number)
 
 abbrev pub committed : Client → Command → Client
 committed c command = record c {
@@ -134,7 +146,8 @@ committed c command = record c {
 abbrev pub after_call : Client → Call → Client
 after_call c (Commit command) = committed c command
 after_call c CommitFence = committed c (Fence (next_fence c))
-after_call c (WritePage key offset bytes) = record c { state = step c.state (Put key (over_written (page_bytes c.state.memory key) offset bytes)) }
+after_call c (WritePage key offset bytes) =
+    record c { state = step c.state (Put key (over_written (page_bytes c.state.memory key) offset bytes)) }
 after_call c (LendPage key) = record c { lent = set.insert c.lent key; touched = map.remove c.touched key }
 after_call c (TakePage key) = record c { lent = set.remove c.lent key; touched = map.remove c.touched key }
 after_call c (ShowPage key) = c

@@ -24,7 +24,7 @@ green_of colour = colour / 256 % 256
 abbrev pub blue_of : ℕ → ℕ
 blue_of colour = colour % 256
 
--- five bits as eight: the upper bits stand again in the lower places
+-- five bits as eight: the upper bits stand again below
 abbrev pub eight_from_five : ℕ → ℕ
 eight_from_five v = v * 8 + v / 4
 
@@ -34,11 +34,13 @@ eight_from_six v = v * 4 + v / 16
 
 -- a word of 16 bits: red in bits 11 to 15, green in 5 to 10, blue in 0 to 4
 abbrev pub colour_in_565 : ℕ → ℕ
-colour_in_565 word = rgb (eight_from_five (word / 2048 % 32)) (eight_from_six (word / 32 % 64)) (eight_from_five (word % 32))
+colour_in_565 word =
+    rgb (eight_from_five (word / 2048 % 32)) (eight_from_six (word / 32 % 64)) (eight_from_five (word % 32))
 
 -- a word of 16 bits: bit 15 is ignored, red in bits 10 to 14, green in 5 to 9, blue in 0 to 4
 abbrev pub colour_in_555 : ℕ → ℕ
-colour_in_555 word = rgb (eight_from_five (word / 1024 % 32)) (eight_from_five (word / 32 % 32)) (eight_from_five (word % 32))
+colour_in_555 word =
+    rgb (eight_from_five (word / 1024 % 32)) (eight_from_five (word / 32 % 32)) (eight_from_five (word % 32))
 
 -- of each part its highest bits are kept
 abbrev pub word_in_565 : ℕ → ℕ
@@ -70,11 +72,13 @@ bytes_of Rgb555 colour = word_bytes (word_in_555 colour)
 
 -- the bytes of pixel k of a row
 abbrev pub pixel_at : Format → List ℕ → ℕ → List ℕ
-pixel_at format bytes k = slice_range bytes (k * pixel_length format) (k * pixel_length format + pixel_length format)
+pixel_at format bytes k =
+    slice_range bytes (k * pixel_length format) (k * pixel_length format + pixel_length format)
 
 -- the colours of a row of so many pixels
 abbrev pub row_colours : Format → ℕ → List ℕ → List ℕ
-row_colours format count bytes = map (λ k. colour_of format (pixel_at format bytes k)) (range_with_len 0 count)
+row_colours format count bytes =
+    map (λ k. colour_of format (pixel_at format bytes k)) (range_with_len 0 count)
 
 -- the bytes of a row: those of its colours one after another
 abbrev pub row_bytes : Format → List ℕ → List ℕ

@@ -3,25 +3,25 @@ use Rattle.std.specs.Prelude.{◌≡◌, ℕ, List, [], ◌∷◌, ◌++◌, Boo
 use Rattle.svga_cmd.specs.Limits.{frame_page_count}
 use Rattle.svga_cmd.specs.declared.command.Command.{Command}
 use Rattle.svga_cmd.specs.declared.command.Command.TheVariants.{Update, Fence, DefineScreen, DestroyScreen, DefineGmrfb, BlitToScreen, BlitToGmrfb, DefineGmr2, RemapGmr2}
+use Rattle.svga_cmd.specs.declared.constants.TheConstants.{MAX_REGION_ID, SVGA_GMR_FRAMEBUFFER, SVGA_GMR_NULL}
 use Rattle.svga_cmd.specs.declared.fault.Fault.{Fault}
 use Rattle.svga_cmd.specs.declared.fault.Fault.TheVariants as fault
 use Rattle.svga_cmd.specs.declared.remap.RemapData.{RemapData}
 use Rattle.svga_model.specs.Acts.{Act, Do, Put, Chain}
 use Rattle.svga_model.specs.BlitFaults.{blit_tests}
 use Rattle.svga_model.specs.PointedNumbers.{Pointed, numbers_judged, pointed, pointer_tests}
-use Rattle.svga_model.specs.Regions.{Regions, define_tests, frame_region, named_pages, remap_tests}
+use Rattle.svga_model.specs.Regions.{Regions, define_tests, named_pages, remap_tests}
 use Rattle.svga_model.specs.Screens.{define_screen_tests, destroy_screen_tests}
 use Rattle.svga_model.specs.Standing.{Stands, least_standing}
 use Rattle.svga_model.specs.States.{Shape, State, shape_of}
 use Rattle.svga_model.specs.Walks.{chain_tests, tables_of}
 
--- GMR_NULL, in place of a GMRFB's region: there is no GMRFB any more
-abbrev pub no_region : ℕ
-no_region = 0xFFFFFFFF
-
 -- when DEFINE_GMRFB is refused; a region that isn't defined may be named
 abbrev pub gmrfb_tests : ℕ → List (Bool × Fault)
-gmrfb_tests region = (nat_lt 4095 region && not (region == frame_region) && not (region == no_region), fault.RegionId) ∷ []
+gmrfb_tests region = (
+  nat_lt MAX_REGION_ID region && not (region == SVGA_GMR_FRAMEBUFFER) && not (region == SVGA_GMR_NULL),
+  fault.RegionId,
+) ∷ []
 
 -- when the numbers of a remap can't be read, where they are read from a region
 abbrev pub pointed_tests : ℕ → Regions → Option Pointed → ℕ → List (Bool × Fault)
@@ -59,7 +59,8 @@ shape_tests s c = tests_by s (numbers_named c) c
 -- the page numbers by which a remap is judged: named, or read where all of them can be
 abbrev pub remap_judged : State → RemapData → Option Pointed → ℕ → List ℕ
 remap_judged s entries None pages = named_pages entries pages
-remap_judged s entries (Some at) pages = numbers_judged (frame_page_count s.kept.limits) s.kept.regions s.memory at pages
+remap_judged s entries (Some at) pages =
+    numbers_judged (frame_page_count s.kept.limits) s.kept.regions s.memory at pages
 
 abbrev pub judged_by : State → Command → List ℕ
 judged_by s (RemapGmr2 region offset pages entries) = remap_judged s entries (pointed entries) pages

@@ -2,13 +2,15 @@
 use Rattle.std.specs.Prelude.{ℕ, ◌+◌, ◌-◌, ◌%◌, ◌^◌, ◌<◌, ◌≤◌, List, filter_map, ◌==◌, if◌then◌else◌, Option, Some, None}
 use Rattle.svga_cmd.specs.declared.command.Command.{Command}
 use Rattle.svga_cmd.specs.declared.command.Command.TheVariants.{Fence}
+use Rattle.svga_cmd.specs.declared.constants.TheConstants.{FENCE_WINDOW}
 
 -- a number that a fence can have: 1 to 2 ^ 32 - 1, since 0 is none
 pub record IsFenceNumber (n : ℕ) : Type 0 where
   pub least : 1 ≤ n
   pub most : n < 2 ^ 32
 
--- The number of fence k, counted from 0, where the first fence has the number first. Behind 2 ^ 32 - 1 comes 1.
+-- The number of fence k, counted from 0, where the first fence has the
+-- number first. Behind 2 ^ 32 - 1 comes 1.
 abbrev pub number_of_fence : ℕ → ℕ → ℕ
 number_of_fence first k = 1 + (first - 1 + k) % (2 ^ 32 - 1)
 
@@ -28,10 +30,10 @@ difference a b = (a + (2 ^ 32 - b)) % 2 ^ 32
 abbrev pub LooksPassed : ℕ → ℕ → Type 0
 LooksPassed register fence = difference register fence < 2 ^ 31
 
--- two places of fences, or a count of fences and a place, that are at most 65,536 apart
+-- two fences, counted from 0, or a count of fences and one of them, that are at most 65,536 apart
 pub record AreNear (j k : ℕ) : Type 0 where
-  pub ahead : j ≤ k + 65536
-  pub behind : k ≤ j + 65536
+  pub ahead : j ≤ k + FENCE_WINDOW
+  pub behind : k ≤ j + FENCE_WINDOW
 
 -- the number that a FENCE sends
 abbrev pub fence_value : Command → Option ℕ

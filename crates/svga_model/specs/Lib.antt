@@ -21,6 +21,7 @@ pub mod Lengths
 pub mod Meanings
 pub mod Members
 pub mod Memories
+pub mod Pictures
 pub mod PointedNumbers
 pub mod Progress
 pub mod RefusedWords
@@ -29,6 +30,7 @@ pub mod Regions
 pub mod Replays
 pub mod Runs
 pub mod Screens
+pub mod ScriptBounds
 pub mod ScriptExamples
 pub mod ScriptLines
 pub mod ScriptWords

@@ -32,8 +32,8 @@ pub record Refusal : Type 0 where
   pub line : ℕ
   pub fault : ClientFault
 
--- the client as the calls leave it, what was done to the device and what was told, in order, and where they end if one is
--- refused
+-- the client as the calls leave it, what was done to the device and what was told, in
+-- order, and where they end if one is refused
 pub record Meaning : Type 0 where
   pub client : Client
   pub acts : List Act
@@ -42,8 +42,12 @@ pub record Meaning : Type 0 where
 
 -- a call before others that mean this, where it isn't refused, or is
 abbrev pub meaning_with : Client → LineCall → Option ClientFault → Meaning → Meaning
-meaning_with c l None m = record m { acts = option_to_list (act_of c l.call) ++ m.acts; told = option_to_list (told_by c l.call) ++ m.told }
-meaning_with c l (Some f) m = record { client = c; acts = []; told = []; refused = Some (record { line = l.line; fault = f }) }
+meaning_with c l None m = record m {
+  acts = option_to_list (act_of c l.call) ++ m.acts;
+  told = option_to_list (told_by c l.call) ++ m.told;
+}
+meaning_with c l (Some f) m =
+    record { client = c; acts = []; told = []; refused = Some (record { line = l.line; fault = f }) }
 
 abbrev pub meaning_from : Client → List LineCall → Meaning
 meaning_from c [] = record { client = c; acts = []; told = []; refused = None }
@@ -56,8 +60,10 @@ pub record LineAct : Type 0 where
 
 -- the calls of acts, each with its act's line
 abbrev pub line_calls : List LineAct → List LineCall
-line_calls acts = flat_map (λ (a : LineAct). map_list (λ call. record { line = a.line; call = call }) (calls_of a.act)) acts
+line_calls acts =
+    flat_map (λ (a : LineAct). map_list (λ call. record { line = a.line; call = call }) (calls_of a.act)) acts
 
 -- what two lists of calls mean, the second behind the first
 abbrev pub joined : Meaning → Meaning → Meaning
-joined m n = record { client = n.client; acts = m.acts ++ n.acts; told = m.told ++ n.told; refused = n.refused }
+joined m n =
+    record { client = n.client; acts = m.acts ++ n.acts; told = m.told ++ n.told; refused = n.refused }

@@ -1,5 +1,5 @@
--- Bytes of pages and of regions in a memory, and how they are written. A page that the memory lacks reads as zeros, and
--- what is written to it is lost.
+-- Bytes of pages and of regions in a memory, and how they are written. A page that the memory lacks reads as
+-- zeros, and what is written to it is lost.
 use Rattle.std.specs.Prelude.{ℕ, ◌+◌, List, [], ◌∷◌, slice_index, slice_set, is_some, if◌then◌else◌, Option, Some, None, unwrap_or}
 use Rattle.std.specs.FinMap as map
 use Rattle.svga_cmd.specs.Pages.{Memory, page_at}

@@ -43,7 +43,8 @@ needs_beyond at pages places = list_any (is_beyond places) (needed_bytes at page
 
 -- when so many numbers can't be read there
 abbrev pub pointer_tests : ℕ → Regions → Pointed → ℕ → List (Bool × Fault)
-pointer_tests frame regions at pages = region_tests frame regions at.region (needs_unmapped at pages) (needs_beyond at pages)
+pointer_tests frame regions at pages =
+    region_tests frame regions at.region (needs_unmapped at pages) (needs_beyond at pages)
 
 -- the number of so many words from byte i on, the low word first
 abbrev pub number_at : (ℕ → ℕ) → ℕ → ℕ → ℕ
@@ -52,17 +53,20 @@ number_at bytes (suc n) i = joined_words (word_at bytes i) (number_at bytes n (i
 
 -- so many numbers that stand there, from these bytes of the region
 abbrev pub numbers_in : (ℕ → ℕ) → Pointed → ℕ → List ℕ
-numbers_in bytes at pages = map_list (λ k. number_at bytes at.words (at.offset + 4 * at.words * k)) (range_with_len 0 pages)
+numbers_in bytes at pages =
+    map_list (λ k. number_at bytes at.words (at.offset + 4 * at.words * k)) (range_with_len 0 pages)
 
 -- the same in a memory
 abbrev pub numbers_at : ℕ → Regions → Memory → Pointed → ℕ → List ℕ
-numbers_at frame regions m at pages = numbers_in (region_byte m (region_places frame regions at.region)) at pages
+numbers_at frame regions m at pages =
+    numbers_in (region_byte m (region_places frame regions at.region)) at pages
 
 -- those that are judged: none where the region isn't defined or a needed byte lies on no mapped place
 abbrev pub judged_in : Memory → Option Places → Pointed → ℕ → List ℕ
 judged_in m None at pages = []
 judged_in m (Some places) at pages =
-    if not (needs_unmapped at pages places) && not (needs_beyond at pages places) then numbers_in (region_byte m places) at pages else []
+    if not (needs_unmapped at pages places) && not (needs_beyond at pages places) then
+    numbers_in (region_byte m places) at pages else []
 
 abbrev pub numbers_judged : ℕ → Regions → Memory → Pointed → ℕ → List ℕ
 numbers_judged frame regions m at pages = judged_in m (places_of frame regions at.region) at pages

@@ -3,6 +3,7 @@ use Rattle.std.specs.Prelude.{ℕ, suc, List, [], ◌∷◌, Bool, false, ◌&&�
 use Rattle.std.specs.FinMap as map
 use Rattle.std.specs.List.{list_any, range_with_len, slice_get}
 use Rattle.svga_cmd.specs.Pages.{Memory}
+use Rattle.svga_cmd.specs.declared.constants.TheConstants.{REGION_IDS}
 use Rattle.svga_cmd.specs.declared.fault.Fault.{Fault}
 use Rattle.svga_cmd.specs.declared.page.PageKey.{PageKey}
 use Rattle.svga_model.specs.Acts.{Act, Do, Put, Chain}
@@ -29,7 +30,10 @@ stopping_fault s acts = option_and_then (fault_of (run s acts)) (slice_get acts 
 
 -- the page stands in a region
 unfoldable pub in_regions : Kept → PageKey → Bool
-in_regions k key = has_page (frame_places (frame_pages k)) key || list_any (λ id. has_page (unwrap_or (defined_places k.regions id) []) key) (range_with_len 0 4096)
+in_regions k key =
+    has_page (frame_places (frame_pages k)) key
+    || list_any (λ id. has_page (unwrap_or (defined_places k.regions id) []) key)
+    (range_with_len 0 REGION_IDS)
 
 -- the page is a table page of the act's walk
 abbrev pub on_walk : State → Act → PageKey → Bool
@@ -37,11 +41,12 @@ on_walk s (Do c) key = false
 on_walk s (Put other bytes) key = false
 on_walk s (Chain id first) key = touches s (Chain id first) key
 
--- The page stands in a region at some point of the run, at its beginning and its end too, or on the walk of a chain that
--- the run does or at which it ends.
+-- The page stands in a region at some point of the run, at its beginning and its end too, or on the walk of a
+-- chain that the run does or at which it ends.
 abbrev pub is_met : State → List Act → PageKey → Bool
 is_met s [] key = in_regions s.kept key
-is_met s (act ∷ acts) key = in_regions s.kept key || on_walk s act key || (is_admissible s act && is_met (step s act) acts key)
+is_met s (act ∷ acts) key =
+    in_regions s.kept key || on_walk s act key || (is_admissible s act && is_met (step s act) acts key)
 
 -- the state with these pages alone
 abbrev pub only : State → List Act → State

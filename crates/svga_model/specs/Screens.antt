@@ -6,6 +6,7 @@ use Rattle.std.specs.FinMap.{FinMap}
 use Rattle.std.specs.List.{range_with_len}
 use Rattle.std.specs.Ordering.{nat_cmp}
 use Rattle.svga_cmd.specs.contracts.screen.ScreenDef as screen_def
+use Rattle.svga_cmd.specs.declared.constants.TheConstants.{COLOURS, MAX_SCREEN_ID, MAX_SCREEN_SIDE, SCREEN_IDS}
 use Rattle.svga_cmd.specs.declared.fault.Fault.{Fault}
 use Rattle.svga_cmd.specs.declared.fault.Fault.TheVariants as fault
 use Rattle.svga_cmd.specs.declared.screen.ScreenDef.{ScreenDef}
@@ -30,7 +31,7 @@ pixels_of (Some d) = d.width * d.height
 
 -- the pixels of all screens
 unfoldable pub pixel_count : (ℕ → Option ScreenDef) → ℕ
-pixel_count definitions = sum_by (λ id. pixels_of (definitions id)) (range_with_len 0 16)
+pixel_count definitions = sum_by (λ id. pixels_of (definitions id)) (range_with_len 0 SCREEN_IDS)
 
 -- their number once this definition stands
 abbrev pub pixels_with : (ℕ → Option ScreenDef) → ScreenDef → ℕ
@@ -38,7 +39,7 @@ pixels_with definitions d = pixel_count definitions - pixels_of (definitions d.i
 
 -- a side of 1 to 8,192 pixels
 abbrev pub is_side : ℕ → Bool
-is_side n = nat_lt 0 n && nat_le n 8192
+is_side n = nat_lt 0 n && nat_le n MAX_SCREEN_SIDE
 
 abbrev pub has_sides : ScreenDef → Bool
 has_sides d = is_side d.width && is_side d.height
@@ -46,15 +47,18 @@ has_sides d = is_side d.width && is_side d.height
 -- when DEFINE_SCREEN is refused
 abbrev pub define_screen_tests : ℕ → (ℕ → Option ScreenDef) → ScreenDef → List (Bool × Fault)
 define_screen_tests budget definitions d =
-    (nat_lt 15 d.id, fault.ScreenId)
+    (nat_lt MAX_SCREEN_ID d.id, fault.ScreenId)
     ∷ (not (has_sides d), fault.ScreenSize)
-    ∷ (nat_le d.id 15 && has_sides d && nat_lt budget (pixels_with definitions d), fault.PixelBudget) ∷ []
+    ∷ (
+      nat_le d.id MAX_SCREEN_ID && has_sides d && nat_lt budget (pixels_with definitions d),
+      fault.PixelBudget,
+    ) ∷ []
 
 -- when DESTROY_SCREEN is refused
 abbrev pub destroy_screen_tests : (ℕ → Option ScreenDef) → ℕ → List (Bool × Fault)
 destroy_screen_tests definitions id =
-    (nat_le id 15 && is_none (definitions id), fault.NoScreen)
-    ∷ (nat_lt 15 id, fault.ScreenId) ∷ []
+    (nat_le id MAX_SCREEN_ID && is_none (definitions id), fault.NoScreen)
+    ∷ (nat_lt MAX_SCREEN_ID id, fault.ScreenId) ∷ []
 
 -- a screen with a black picture
 abbrev pub black_screen : ScreenDef → Screen
@@ -114,25 +118,27 @@ IsAsWide (Some d) row = length row ≡ d.width
 -- a definition of this id, with sides as DEFINE_SCREEN takes them
 pub record IsDefinition (id : ℕ) (d : ScreenDef) : Type 0 where
   pub name : d.id ≡ id
-  pub width : (0 < d.width) × (d.width ≤ 8192)
-  pub height : (0 < d.height) × (d.height ≤ 8192)
+  pub width : (0 < d.width) × (d.width ≤ MAX_SCREEN_SIDE)
+  pub height : (0 < d.height) × (d.height ≤ MAX_SCREEN_SIDE)
 
 -- a screen of this id, with as many rows of as many colours as its definition says
 pub record IsScreen (id : ℕ) (s : Screen) : Type 0 where
   pub def : IsDefinition id s.def
   pub rows : length s.rows ≡ s.def.height
   pub columns : All (λ row. length row ≡ s.def.width) s.rows
-  pub colours : All (All (λ c. c < 16777216)) s.rows
+  pub colours : All (All (λ c. c < COLOURS)) s.rows
 
 -- what holds of the screens of every state
 pub record AreScreens (budget : ℕ) (screens : Screens) : Type 0 where
-  pub ids : (id : ℕ) → 16 ≤ id → map.get screens id ≡ None
+  pub ids : (id : ℕ) → SCREEN_IDS ≤ id → map.get screens id ≡ None
   pub each : (id : ℕ) → IfSome (map.get screens id) (IsScreen id)
   pub within_budget : pixel_count (definitions_of screens) ≤ budget
 
 -- the codes of screens, by which a type that is seen as them tells its values apart
 abbrev pub coded_screen : Coded Screen
-coded_screen = code_by (ScreenDef × List (List ℕ)) (coded× screen_def.the_row.coded (coded_list (coded_list coded_ℕ))) (λ s. (s.def, s.rows)) (λ p. record { def = p.0; rows = p.1 }) (λ _. refl)
+coded_screen =
+    code_by (ScreenDef × List (List ℕ)) (coded× screen_def.the_row.coded (coded_list (coded_list coded_ℕ)))
+    (λ s. (s.def, s.rows)) (λ p. record { def = p.0; rows = p.1 }) (λ _. refl)
 
 abbrev pub coded_screens : Coded Screens
 coded_screens = map.code coded_ℕ coded_screen

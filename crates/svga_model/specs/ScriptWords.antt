@@ -1,8 +1,9 @@
--- The words of a script's line, and what they say. What is said of letters that aren't spelled as they should be decides
--- nothing.
+-- The words of a script's line, and what they say. What is said of letters that aren't
+-- spelled as they should be decides nothing.
 use Rattle.std.specs.Prelude.{ℕ, suc, ◌+◌, ◌-◌, ◌*◌, ℤ, pos, negsuc, List, [], ◌∷◌, length, drop, codes, Bool, true, false, nat_lt, nat_le, ◌==◌, ◌&&◌, ◌||◌, not, if◌then◌else◌, Option, Some, None}
 use Rattle.std.specs.List.{list_all}
 use Rattle.std.specs.Str.{bytes_eq}
+use Rattle.svga_cmd.specs.declared.constants.TheConstants.{PAGE_SIZE}
 use Rattle.svga_cmd.specs.declared.format.Format.{Format}
 use Rattle.svga_cmd.specs.declared.format.Format.TheVariants.{Bgrx32, Bgr24, Rgb565, Rgb555}
 use Rattle.svga_cmd.specs.declared.page.PageKey.{PageKey}
@@ -21,12 +22,13 @@ abbrev pub letter_before : ℕ → ℕ → List Word → List Word
 letter_before column letter [] = []
 letter_before column letter (w ∷ words) = record { column = column; letters = letter ∷ w.letters } ∷ words
 
--- the words of what stands from a column on, parted by single spaces; where two spaces stand side by side, or one at an
--- end, a word is empty
+-- the words of what stands from a column on, parted by single spaces; where two spaces stand side by
+-- side, or one at an end, a word is empty
 abbrev pub words_from : ℕ → List ℕ → List Word
 words_from column [] = record { column = column; letters = [] } ∷ []
 words_from column (byte ∷ bytes) =
-    if byte == 32 then record { column = column; letters = [] } ∷ words_from (suc column) bytes else letter_before column byte (words_from (suc column) bytes)
+    if byte == 32 then record { column = column; letters = [] } ∷ words_from (suc column) bytes else
+    letter_before column byte (words_from (suc column) bytes)
 
 -- N: a number up to 4,294,967,295 in decimal digits, without a zero in front
 abbrev pub is_digit : ℕ → Bool
@@ -58,18 +60,21 @@ minus = 45
 
 abbrev pub is_signed : List ℕ → Bool
 is_signed letters =
-    if begins_with minus letters then is_number (drop 1 letters) && nat_le 1 (number_in (drop 1 letters)) && nat_le (number_in (drop 1 letters)) 2147483648
+    if begins_with minus letters then is_number (drop 1 letters) && nat_le 1 (number_in (drop 1 letters))
+    && nat_le (number_in (drop 1 letters)) 2147483648
     else is_number letters && nat_le (number_in letters) 2147483647
 
 abbrev pub signed_in : List ℕ → ℤ
-signed_in letters = if begins_with minus letters then negsuc (number_in (drop 1 letters) - 1) else pos (number_in letters)
+signed_in letters =
+    if begins_with minus letters then negsuc (number_in (drop 1 letters) - 1) else pos (number_in letters)
 
 -- KEY: `p` or `f`, and N
 abbrev pub is_key_word : List ℕ → Bool
 is_key_word letters = (begins_with 112 letters || begins_with 102 letters) && is_number (drop 1 letters)
 
 abbrev pub key_in : List ℕ → PageKey
-key_in letters = if begins_with 112 letters then Guest (number_in (drop 1 letters)) else Frame (number_in (drop 1 letters))
+key_in letters =
+    if begins_with 112 letters then Guest (number_in (drop 1 letters)) else Frame (number_in (drop 1 letters))
 
 -- what stands before the first `+`, and behind it if there is one
 abbrev pub plus : ℕ
@@ -121,7 +126,7 @@ abbrev pub is_hex_byte : List ℕ → Bool
 is_hex_byte letters = are_pairs letters && length letters == 2
 
 abbrev pub is_hex : List ℕ → Bool
-is_hex letters = are_pairs letters && nat_le 2 (length letters) && nat_le (length letters) 8192
+is_hex letters = are_pairs letters && nat_le 2 (length letters) && nat_le (length letters) (2 * PAGE_SIZE)
 
 abbrev pub hex_in : List ℕ → List ℕ
 hex_in (high ∷ low ∷ letters) = (16 * hex_value high + hex_value low) ∷ hex_in letters
@@ -147,4 +152,6 @@ abbrev pub number_or : List ℕ → ℕ → List ℕ → ℕ
 number_or name number letters = if is_word name letters then number else number_in letters
 
 abbrev pub way_of : List ℕ → Option Way
-way_of letters = if is_word (codes "reserve") letters then Some Reserve else if is_word (codes "dword") letters then Some Dword else None
+way_of letters =
+    if is_word (codes "reserve") letters then Some Reserve else
+    if is_word (codes "dword") letters then Some Dword else None

@@ -27,5 +27,5 @@ abbrev pub Begins : List ℕ → Type 0
 Begins ws = (c : Command) × (rest : List ℕ) × Spells c (ws ++ rest)
 
 -- ws is the beginning of some command's spelling, and at least one word more belongs to it
-abbrev pub IsBegun : List ℕ → Type 0
-IsBegun ws = (c : Command) × (word : ℕ) × (rest : List ℕ) × Spells c (ws ++ word ∷ rest)
+abbrev pub IsCommandBegun : List ℕ → Type 0
+IsCommandBegun ws = (c : Command) × (word : ℕ) × (rest : List ℕ) × Spells c (ws ++ word ∷ rest)

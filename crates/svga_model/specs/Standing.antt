@@ -16,7 +16,8 @@ lesser_of f (Some g) = if nat_le (number_of f) (number_of g) then f else g
 -- the fault with the least number among those whose tests are true
 abbrev pub least_standing : List (Bool × Fault) → Option Fault
 least_standing [] = None
-least_standing (rule ∷ rules) = if rule.0 then Some (lesser_of rule.1 (least_standing rules)) else least_standing rules
+least_standing (rule ∷ rules) =
+    if rule.0 then Some (lesser_of rule.1 (least_standing rules)) else least_standing rules
 
 -- the first fault whose test is true: the least one where the faults' numbers go up
 abbrev pub first_standing : List (Bool × Fault) → Option Fault

@@ -4,6 +4,7 @@ use Rattle.std.specs.FinMap as map
 use Rattle.std.specs.List.{range_with_len}
 use Rattle.svga_cmd.specs.Limits.{frame_page_count}
 use Rattle.svga_cmd.specs.Pages.{Memory}
+use Rattle.svga_cmd.specs.declared.constants.TheConstants.{PAGE_SIZE}
 use Rattle.svga_cmd.specs.declared.gmrfb.Gmrfb.{Gmrfb}
 use Rattle.svga_cmd.specs.declared.limits.Limits.{Limits}
 use Rattle.svga_cmd.specs.declared.page.PageKey.{PageKey}
@@ -33,7 +34,8 @@ pub record Shape : Type 0 where
   pub definitions : ℕ → Option ScreenDef
 
 abbrev pub shape_of : Kept → Shape
-shape_of k = record { limits = k.limits; regions = k.regions; gmrfb = k.gmrfb; definitions = definitions_of k.screens }
+shape_of k =
+    record { limits = k.limits; regions = k.regions; gmrfb = k.gmrfb; definitions = definitions_of k.screens }
 
 -- how many pages the guest framebuffer has
 abbrev pub frame_pages : Kept → ℕ
@@ -41,15 +43,18 @@ frame_pages k = frame_page_count k.limits
 
 -- the keys of all pages
 abbrev pub all_keys : Limits → List PageKey
-all_keys l = map_list Guest (range_with_len 0 l.pages) ++ map_list Frame (range_with_len 0 (frame_page_count l))
+all_keys l =
+    map_list Guest (range_with_len 0 l.pages) ++ map_list Frame (range_with_len 0 (frame_page_count l))
 
 -- a memory of all pages, each of zeros
 unfoldable pub opening_memory : Limits → Memory
-opening_memory l = map.from_entries (map_list (λ key. (key, replicate 4096 0)) (all_keys l))
+opening_memory l = map.from_entries (map_list (λ key. (key, replicate PAGE_SIZE 0)) (all_keys l))
 
--- no region but the framebuffer's, no GMRFB, no screen, and the number below the first fence's, which is 1 or more
+-- no region but the framebuffer's, no GMRFB, no screen, and the number below
+-- the first fence's, which is 1 or more
 abbrev pub opening_kept : Limits → ℕ → Kept
-opening_kept l first = record { limits = l; regions = map.empty; gmrfb = None; screens = map.empty; fence = first - 1 }
+opening_kept l first =
+    record { limits = l; regions = map.empty; gmrfb = None; screens = map.empty; fence = first - 1 }
 
 abbrev pub opening_state : Limits → ℕ → State
 opening_state l first = record { kept = opening_kept l first; memory = opening_memory l }

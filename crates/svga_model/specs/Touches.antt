@@ -1,18 +1,20 @@
--- Which pages an act may read or write. It is meant of admissible acts, and of a chain also where its walk is refused.
+-- Which pages an act may read or write. It is meant of admissible acts, and of a
+-- chain also where its walk is refused.
 use Rattle.std.specs.Prelude.{◌≡◌, ⊤, ℕ, List, [], Bool, true, false, ◌==◌, if◌then◌else◌, Option, Some, None, option_map, unwrap_or, option_and_then}
 use Rattle.std.specs.List.{list_any}
 use Rattle.std.specs.Ordering.{eq_by_cmp}
 use Rattle.svga_cmd.specs.Pages.{key_cmp, page_at}
 use Rattle.svga_cmd.specs.declared.command.Command.{Command}
 use Rattle.svga_cmd.specs.declared.command.Command.TheVariants.{Update, Fence, DefineScreen, DestroyScreen, DefineGmrfb, BlitToScreen, BlitToGmrfb, DefineGmr2, RemapGmr2}
+use Rattle.svga_cmd.specs.declared.constants.TheConstants.{SVGA_GMR_FRAMEBUFFER}
 use Rattle.svga_cmd.specs.declared.gmrfb.Gmrfb.{Gmrfb}
 use Rattle.svga_cmd.specs.declared.page.PageKey.{PageKey}
 use Rattle.svga_cmd.specs.declared.page.PageKey.TheVariants.{Guest}
 use Rattle.svga_model.specs.Acts.{Act, Do, Put, Chain}
 use Rattle.svga_model.specs.PointedNumbers.{pointed}
-use Rattle.svga_model.specs.Regions.{Places, frame_region, places_of}
+use Rattle.svga_model.specs.Regions.{Places, places_of}
 use Rattle.svga_model.specs.States.{Kept, State, frame_pages}
-use Rattle.svga_model.specs.Walks.{TablePlace, tables_of, walk}
+use Rattle.svga_model.specs.Walks.{TablePosition, tables_of, walk}
 
 abbrev pub is_page : PageKey → Option PageKey → Bool
 is_page key None = false
@@ -24,7 +26,7 @@ has_page places key = list_any (is_page key) places
 
 -- the region whose pages a command may read or write
 abbrev pub touched_region : Option Gmrfb → Command → Option ℕ
-touched_region gmrfb (Update x y width height) = Some frame_region
+touched_region gmrfb (Update x y width height) = Some SVGA_GMR_FRAMEBUFFER
 touched_region gmrfb (Fence value) = None
 touched_region gmrfb (DefineScreen d) = None
 touched_region gmrfb (DestroyScreen id) = None
@@ -36,10 +38,11 @@ touched_region gmrfb (RemapGmr2 region offset pages entries) = option_map (λ at
 
 -- its places, mapped and unmapped
 abbrev pub touched_places : Kept → Command → Places
-touched_places k c = unwrap_or (option_and_then (places_of (frame_pages k) k.regions) (touched_region k.gmrfb c)) []
+touched_places k c =
+    unwrap_or (option_and_then (places_of (frame_pages k) k.regions) (touched_region k.gmrfb c)) []
 
--- the places of a chain's walk: with first page 0 there is none
-abbrev pub chain_walk : State → ℕ → List TablePlace
+-- the positions of a chain's walk: with first page 0 there is none
+abbrev pub chain_walk : State → ℕ → List TablePosition
 chain_walk s first = if first == 0 then [] else walk s.kept.limits.pages (tables_of s.memory) first
 
 -- the act may read or write the page; of a Put it isn't said

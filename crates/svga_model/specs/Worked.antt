@@ -6,6 +6,7 @@ use Rattle.svga_cmd.specs.declared.blit.Blit.{Blit}
 use Rattle.svga_cmd.specs.declared.blit.Rect.{Rect}
 use Rattle.svga_cmd.specs.declared.command.Command.{Command}
 use Rattle.svga_cmd.specs.declared.command.Command.TheVariants.{BlitToGmrfb, BlitToScreen, DefineGmr2, RemapGmr2, Update}
+use Rattle.svga_cmd.specs.declared.constants.TheConstants.{SVGA_ID_INVALID}
 use Rattle.svga_cmd.specs.declared.format.Format.TheVariants.{Bgr24}
 use Rattle.svga_cmd.specs.declared.gmrfb.Gmrfb.{Gmrfb}
 use Rattle.svga_cmd.specs.declared.remap.RemapData.TheVariants.{SinglePpn32, ViaGmr32, ViaGmr64}
@@ -13,7 +14,6 @@ use Rattle.svga_cmd.specs.declared.screen.ScreenDef.{ScreenDef}
 use Rattle.svga_model.specs.Acts.{Do}
 use Rattle.svga_model.specs.BlitEffects.{colour_on}
 use Rattle.svga_model.specs.BlitExamples.{corner_blit, gmrfb, screen_def, two_screens, virtual_blit}
-use Rattle.svga_model.specs.BlitPixels.{all_screens}
 use Rattle.svga_model.specs.Memories.{region_byte}
 use Rattle.svga_model.specs.Regions.{Places, places_of}
 use Rattle.svga_model.specs.Screens.{definitions_of, row_of}
@@ -34,7 +34,8 @@ abbrev pub colour_from : (ℕ → ℕ) → ℕ → ℕ
 colour_from bytes i = 65536 * bytes (i + 2) + 256 * bytes (i + 1) + bytes i
 
 -- what a blit begins with: the GMRFB, the places of its region, and the screens' definitions
-pub record IsSetUp (s : State) (g : Gmrfb) (places : Places) (definitions : ℕ → Option ScreenDef) : Type 0 where
+pub record IsSetUp (s : State) (g : Gmrfb) (places : Places)
+    (definitions : ℕ → Option ScreenDef) : Type 0 where
   pub gmrfb : s.kept.gmrfb ≡ Some g
   pub region : places_of (frame_pages s.kept) s.kept.regions g.region ≡ Some places
   pub screens : definitions_of s.kept.screens ≡ definitions
@@ -43,7 +44,7 @@ pub record IsSetUp (s : State) (g : Gmrfb) (places : Places) (definitions : ℕ 
 abbrev pub after_corner : State → State
 after_corner s = after s (BlitToScreen corner_blit)
 
--- two screens that share a place, and the first four colours of the GMRFB's row 0
+-- two screens that share a point, and the first four colours of the GMRFB's row 0
 pub record AreOverlapping (s : State) (places : Places) (a b c d : ℕ) : Type 0 where
   pub set_up : IsSetUp s gmrfb places two_screens
   pub first : colour_from (region_byte s.memory places) 0 ≡ a
@@ -64,9 +65,9 @@ rect_of width height = record { left = pos 0; top = pos 0; right = pos width; bo
 abbrev pub inner_blit : Blit
 inner_blit = record { point = record { x = pos 3; y = pos 0 }; rect = rect_of 1 1; screen = 1 }
 
--- between the places that two screens cover and row 1 of the GMRFB
+-- between the points that two screens cover and row 1 of the GMRFB
 abbrev pub lower_blit : Blit
-lower_blit = record { point = record { x = pos 0; y = pos 1 }; rect = rect_of 3 1; screen = all_screens }
+lower_blit = record { point = record { x = pos 0; y = pos 1 }; rect = rect_of 3 1; screen = SVGA_ID_INVALID }
 
 -- the state after a blit to both screens, one to screen 1, and one back from both
 abbrev pub after_both : State → State
@@ -93,7 +94,8 @@ after_remap s = after (after s define_two) remap_both
 -- region 1 has these places, and begins with these words of 32 bits
 pub record BeginsWith (s : State) (places : Places) (words : List ℕ) : Type 0 where
   pub region : map.get s.kept.regions 1 ≡ Some places
-  pub each : map_list (λ k. word_at (region_byte s.memory places) (4 * k)) (range_with_len 0 (length words)) ≡ words
+  pub each : map_list (λ k. word_at (region_byte s.memory places) (4 * k)) (range_with_len 0 (length words))
+      ≡ words
 
 -- both places are the pages whose numbers stand in the region's own first bytes
 abbrev pub remap_by_own : Command

@@ -1,9 +1,10 @@
 //! Worked examples of captures. The function does nothing: its contract is the law.
 ghost use Rattle.std.specs.FinMap as map;
 ghost use Rattle.std.specs.Prelude.{◌≡◌, ◌++◌, ◌==◌, [], ◌∷◌, take, None, Some};
+ghost use Rattle.svga_cmd.specs.declared.capture_cause.CaptureCause.TheVariants.{Long, Magic, Number, Order, Short, Version};
 ghost use Rattle.svga_cmd.specs.declared.page.PageKey.TheVariants.{Guest};
 ghost use Rattle.svga_model.specs.CaptureExamples.{bytes_from, small, small_page, small_regions, small_with, with_least, wrapped};
-ghost use Rattle.svga_model.specs.CaptureFields.{Long, Magic, Number, Order, Short, Version, ordered_field};
+ghost use Rattle.svga_model.specs.CaptureFields.{ordered_field};
 ghost use Rattle.svga_model.specs.Captures.{flaw_in, held};
 
 /// A capture of 56 bytes, and what is wrong where one of its words is another.
@@ -33,8 +34,10 @@ pub fn small_captures()
     ensures no_guest_key { flaw_in (small_page 1) ≡ Some (56, Number) }
     ensures no_frame_key { flaw_in (small_page 0x80000001) ≡ Some (56, Number) }
     // A key that is no page's and isn't above the last one breaks the rule on its number.
-    ensures number_first { (ordered_field (bytes_from (1 ∷ [])) 0 (Some 0x80000000) (λ w. w == 0)).breaks ≡ Some Number }
-    ensures then_order { (ordered_field (bytes_from (0 ∷ [])) 0 (Some 0x80000000) (λ w. w == 0)).breaks ≡ Some Order }
+    ensures number_first { (ordered_field (bytes_from (1 ∷ [])) 0 (Some 0x80000000) (λ w. w == 0)).breaks
+        ≡ Some Number }
+    ensures then_order { (ordered_field (bytes_from (0 ∷ [])) 0 (Some 0x80000000) (λ w. w == 0)).breaks
+        ≡ Some Order }
 {}
 
 /// Words that wait round the ring's end, regions' places, and fences that are there or not.
@@ -42,8 +45,12 @@ pub fn words_of_captures()
     ensures empty { (held (bytes_from small)).words ≡ [] }
     ensures whole { flaw_in wrapped ≡ None }
     ensures round { (held wrapped).words ≡ 9 ∷ 7 ∷ [] }
-    ensures places { map.get (held (small_regions 2 (5 ∷ 1 ∷ 0 ∷ 6 ∷ 1 ∷ 0xFFFFFFFF ∷ []))).opening.kept.regions 5 ≡ Some (Some (Guest 0) ∷ []) }
-    ensures unmapped { map.get (held (small_regions 2 (5 ∷ 1 ∷ 0 ∷ 6 ∷ 1 ∷ 0xFFFFFFFF ∷ []))).opening.kept.regions 6 ≡ Some (None ∷ []) }
+    ensures places { map.get
+        (held (small_regions 2 (5 ∷ 1 ∷ 0 ∷ 6 ∷ 1 ∷ 0xFFFFFFFF ∷ []))).opening.kept.regions 5
+        ≡ Some (Some (Guest 0) ∷ []) }
+    ensures unmapped { map.get
+        (held (small_regions 2 (5 ∷ 1 ∷ 0 ∷ 6 ∷ 1 ∷ 0xFFFFFFFF ∷ []))).opening.kept.regions 6
+        ≡ Some (None ∷ []) }
     ensures fence { (held (with_least 28)).opening.kept.fence ≡ 5 }
     ensures no_fence { (held (with_least 24)).opening.kept.fence ≡ 0 }
 {}

@@ -21,11 +21,14 @@ ghost use Rattle.svga_model.specs.Worked.{after, after_back, after_both, after_c
 ghost use Rattle.svga_model.specs.Worked.{colour_from, define_two, inner_blit, lower_blit, pixel_blit};
 ghost use Rattle.svga_model.specs.Worked.{remap_both, remap_by_own, remap_by_own_64, shown_at, small_screen};
 
+use svga_cmd::constants::{MAX_PLACES, MAX_REGION_ID};
+
 /// A DEFINE_GMR2 of no pages where nothing is defined: it may be done, and does nothing.
 pub fn empty_region()
-    ensures admissible { (s : State) (region : ℕ) → region ≤ 4095 → place_count s.kept.regions ≤ 65536 →
-        IsAdmissible s (Do (DefineGmr2 region 0)) }
-    ensures same { (s : State) (region : ℕ) → map.get s.kept.regions region ≡ None → after s (DefineGmr2 region 0) ≡ s }
+    ensures admissible { (s : State) (region : ℕ) → region ≤ MAX_REGION_ID
+        → place_count s.kept.regions ≤ MAX_PLACES → IsAdmissible s (Do (DefineGmr2 region 0)) }
+    ensures same { (s : State) (region : ℕ) → map.get s.kept.regions region ≡ None
+        → after s (DefineGmr2 region 0) ≡ s }
 {}
 
 /// A blit whose rectangle begins one pixel outside a screen of 4 by 4 pixels.
@@ -34,9 +37,11 @@ pub fn blit_at_a_corner()
     ensures first { (s : State) (places : Places) → IsSetUp s gmrfb places one_screen →
         shown_at (after_corner s) 0 0 0 ≡ colour_from (region_byte s.memory places) 104 }
 
-    // Four pixels are painted, each with the colour of the GMRFB's pixel one further to the right and one further down.
-    ensures painted { (s : State) (places : Places) (x y : ℕ) → IsSetUp s gmrfb places one_screen → x < 2 → y < 2 →
-        shown_at (after_corner s) 0 x y ≡ colour_from (region_byte s.memory places) (100 * (y + 1) + 4 * (x + 1)) }
+    // Four pixels are painted, each with the colour of the GMRFB's pixel one further
+    // to the right and one further down.
+    ensures painted { (s : State) (places : Places) (x y : ℕ) → IsSetUp s gmrfb places one_screen → x < 2
+        → y < 2 → shown_at (after_corner s) 0 x y
+        ≡ colour_from (region_byte s.memory places) (100 * (y + 1) + 4 * (x + 1)) }
 
     // The others keep their colours.
     ensures others { (s : State) (places : Places) (x y : ℕ) → IsSetUp s gmrfb places one_screen →
@@ -53,9 +58,9 @@ pub fn blit_at_a_corner()
         IsSetUp s gmrfb (Some key ∷ places) one_screen → IsAdmissible s (Do (BlitToScreen corner_blit)) }
 {}
 
-/// Blits to two screens that share a place, and one back from there.
+/// Blits to two screens that share a point, and one back from there.
 pub fn overlapping_screens()
-    // In virtual coordinates the shared place is painted on both screens.
+    // In virtual coordinates the shared point is painted on both screens.
     ensures both { (s : State) (places : Places) (a b c d : ℕ) → AreOverlapping s places a b c d →
         AreShown (after_both s) (a ∷ b ∷ []) (b ∷ c ∷ []) }
 
@@ -67,15 +72,17 @@ pub fn overlapping_screens()
     ensures back { (s : State) (places : Places) (a b c d : ℕ) → AreOverlapping s places a b c d →
         blit_writes (after_inner s).kept.screens gmrfb lower_blit
         ≡ writes_from 100 (row_bytes Bgrx32 (a ∷ b ∷ c ∷ [])) }
-    ensures memory { (s : State) (places : Places) (a b c d : ℕ) → AreOverlapping s places a b c d →
-        (after_back s).memory ≡ written places s.memory (writes_from 100 (row_bytes Bgrx32 (a ∷ b ∷ c ∷ []))) }
+    ensures memory { (s : State) (places : Places) (a b c d : ℕ) → AreOverlapping s places a b c d
+        → (after_back s).memory ≡ written places s.memory
+        (writes_from 100 (row_bytes Bgrx32 (a ∷ b ∷ c ∷ []))) }
     ensures rest { (s : State) (places : Places) (a b c d : ℕ) → AreOverlapping s places a b c d →
         (after_back s).kept ≡ (after_inner s).kept }
 
     // The three may be done where the region's first place is a page.
-    ensures admissible { (s : State) (key : PageKey) (places : Places) (a b c d : ℕ) →
-        AreOverlapping s (Some key ∷ places) a b c d →
-        done s (Do (BlitToScreen virtual_blit) ∷ Do (BlitToScreen inner_blit) ∷ Do (BlitToGmrfb lower_blit) ∷ []) ≡ 3 }
+    ensures admissible { (s : State) (key : PageKey) (places : Places) (a b c d : ℕ)
+        → AreOverlapping s (Some key ∷ places) a b c d
+        → done s (Do (BlitToScreen virtual_blit) ∷ Do (BlitToScreen inner_blit) ∷ Do (BlitToGmrfb lower_blit)
+        ∷ []) ≡ 3 }
 {}
 
 /// A remap of a region's two places to the pages whose numbers stand in the region itself.
@@ -95,7 +102,8 @@ pub fn remap_of_its_own_numbers()
         map.get (after s remap_by_own).kept.regions id ≡ map.get s.kept.regions id }
     ensures rest { (s : State) → after s remap_by_own ≡ with_regions s (after s remap_by_own).kept.regions }
 
-    // It may be done where the first place is a page, whatever the second is, and both numbers are guest pages'.
+    // It may be done where the first place is a page, whatever the second is,
+    // and both numbers are guest pages'.
     ensures admissible { (s : State) (key : PageKey) (q : Option PageKey) (m n : ℕ) →
         BeginsWith s (Some key ∷ q ∷ []) (m ∷ n ∷ []) → m < s.kept.limits.pages → n < s.kept.limits.pages →
         IsAdmissible s (Do remap_by_own) }
@@ -113,8 +121,9 @@ pub fn pixel_over_two_places()
         ≡ Some ((65536 * slice_index bytes 1 + 256 * slice_index bytes 0 + slice_index bytes 4095) ∷ []) }
 
     // The three may be done where there is room for two places and page 4 is a guest page.
-    ensures admissible { (s : State) → IsSplit s → place_count s.kept.regions + 2 ≤ 65536 → 4 < s.kept.limits.pages →
-        done s (Do define_two ∷ Do remap_both ∷ Do (BlitToScreen pixel_blit) ∷ []) ≡ 3 }
+    ensures admissible { (s : State) → IsSplit s → place_count s.kept.regions + 2 ≤ MAX_PLACES
+        → 4 < s.kept.limits.pages → done s (Do define_two ∷ Do remap_both ∷ Do (BlitToScreen pixel_blit) ∷ [])
+        ≡ 3 }
 {}
 
 /// An UPDATE that goes past the edges of the framebuffer and of a screen, both of 2 by 2 pixels.
@@ -126,7 +135,8 @@ pub fn update_past_the_edge()
         (shown_at s 0 0 1 ∷ colour_from (slice_index bytes) 12 ∷ []) }
 
     // Nothing but the picture changes.
-    ensures definitions { (s : State) → IsSmall s → definitions_of (after_update s).kept.screens ≡ small_screen }
+    ensures definitions { (s : State) → IsSmall s
+        → definitions_of (after_update s).kept.screens ≡ small_screen }
     ensures rest { (s : State) → after_update s ≡ with_screens s (after_update s).kept.screens }
     ensures admissible { (s : State) → IsAdmissible s (Do (Update 1 0 9 9)) }
 {}

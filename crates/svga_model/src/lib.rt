@@ -31,6 +31,9 @@ pub use pixels::{
     pixels_of_two_screens,
 };
 pub use runs::{replay_within_regions, run_in_parts, run_over_only};
-pub use scripts::{small_meanings, small_scripts};
+pub use scripts::{
+    bounded_scripts, first_lines_of_scripts, lines_ask, small_meanings, small_scripts,
+    words_of_scripts,
+};
 pub use states::{put_alone, valid_states};
 pub use touches::{puts_commute, touched_pages};

@@ -6,12 +6,13 @@ use crate::bgr::{Bgr24, Bgrx32};
 use crate::layout::Layout;
 use crate::sixteen::{Rgb555, Rgb565};
 use svga_cmd::Format;
+use svga_cmd::constants::COLOURS;
 
 /// Reads a row: each colour becomes that of its pixel's bytes.
 pub fn read_row(format: Format, bytes: &[u8], colours: &mut [u32])
     requires { length bytes.now ≡ length colours.old * pixel_length format }
     ensures colours { colours.new ≡ row_colours format (length colours.old) bytes.now }
-    ensures in_range { All (λ c. c < 16777216) colours.new }
+    ensures in_range { All (λ c. c < COLOURS) colours.new }
 {
     // The format is looked at once a row, so that each loop is tight.
     match format {
@@ -24,7 +25,7 @@ pub fn read_row(format: Format, bytes: &[u8], colours: &mut [u32])
 
 /// Writes a row: each pixel's bytes become those of its colour.
 pub fn write_row(format: Format, colours: &[u32], bytes: &mut [u8])
-    requires in_range { All (λ c. c < 16777216) colours.now }
+    requires in_range { All (λ c. c < COLOURS) colours.now }
     requires whole { length bytes.old ≡ length colours.now * pixel_length format }
     ensures { bytes.new ≡ row_bytes format colours.now }
 {
@@ -39,7 +40,7 @@ pub fn write_row(format: Format, colours: &[u32], bytes: &mut [u8])
 fn read<L: Layout>(bytes: &[u8], colours: &mut [u32])
     requires { length bytes.now ≡ length colours.old * pixel_length L.format }
     ensures colours { colours.new ≡ row_colours L.format (length colours.old) bytes.now }
-    ensures in_range { All (λ c. c < 16777216) colours.new }
+    ensures in_range { All (λ c. c < COLOURS) colours.new }
 {
     let length = L::length();
     for k in 0..colours.len() {
@@ -49,7 +50,7 @@ fn read<L: Layout>(bytes: &[u8], colours: &mut [u32])
 }
 
 fn write<L: Layout>(colours: &[u32], bytes: &mut [u8])
-    requires in_range { All (λ c. c < 16777216) colours.now }
+    requires in_range { All (λ c. c < COLOURS) colours.now }
     requires whole { length bytes.old ≡ length colours.now * pixel_length L.format }
     ensures { bytes.new ≡ row_bytes L.format colours.now }
 {

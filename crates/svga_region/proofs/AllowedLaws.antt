@@ -1,5 +1,5 @@
 -- What is known of a region where a change of it isn't refused.
-use Rattle.std.proofs.Common.{◌≡◌, ◌⊎◌, ℕ, ◌+◌, ◌-◌, ◌<◌, ◌≤◌, refl, sym, ap, ◌∙◌, Option, None, Some, List, [], ◌∷◌, Bool, true, false, cond, ◌&&◌, nat_lt, nat_le, length, arith, slice_index_or, sum_by, is_none, inl, inr}
+use Rattle.std.proofs.Common.{◌≡◌, ◌⊎◌, ℕ, ◌+◌, ◌-◌, ◌<◌, ◌≤◌, refl, sym, ap, ◌∙◌, Option, None, Some, List, [], ◌∷◌, Bool, true, false, cond, ◌&&◌, nat_lt, nat_le, length, arith, slice_index_or, sum_by, unwrap_or, is_none, inl, inr}
 use Rattle.std.proofs.lemmas.Bool.{cases_lt}
 use Rattle.std.proofs.lemmas.Bool.Decides.{nat_tests}
 use Rattle.svga_cmd.specs.declared.fault.Fault.{Fault}
@@ -7,6 +7,7 @@ use Rattle.svga_cmd.specs.declared.fault.Fault.TheVariants as fault
 use Rattle.svga_model.specs.Regions.{Places, Regions, defined_places, define_tests, id_tests, place_count, places_with, region_length, remap_tests}
 use Rattle.svga_model.specs.Standing.{first_standing}
 use Rattle.svga_region.proofs.DefineLaws.{define_over, length_in-slot, place_count-slots, remap_beyond, remap_none}
+use Rattle.svga_region.proofs.PlaceLaws.{defined_places-small, slot_is}
 use Rattle.svga_region.specs.Kept.{AreSlots, regions_of}
 
 -- where no test stands the first is false, and none of the others stands
@@ -104,3 +105,26 @@ remap_range guest defined lists regions id offset pages numbers is none =
         let refused = remap_beyond guest defined lists id offset pages numbers small flag long in
         absurd (cc (refused, ap (λ rs. first_standing (remap_tests guest rs id offset pages numbers)) is, none))
     go (inr fits) = fits
+
+-- a region that has a place is defined
+pub place_flag : (defined : List Bool) (lists : List Places) (regions : Regions) (id k : ℕ)
+    → regions_of defined lists ≡ regions → id ≤ 4095 → k < region_length regions id
+    → slice_index_or defined id false ≡ true
+place_flag defined lists regions id k is low there = go (slice_index_or defined id false) refl where
+  go : (t : Bool) → slice_index_or defined id false ≡ t → slice_index_or defined id false ≡ true
+  go true e = e
+  go false e =
+      let none = defined_places-small defined lists id (omega arith) ∙ slot_is defined lists id false e in
+      let len : region_length regions id ≡ 0 =
+      ap (λ rs. region_length rs id) (sym is) ∙ ap (λ o. length (unwrap_or o [])) none in
+      absurd (omega arith)
+
+-- and its list has the place
+pub place_range : (defined : List Bool) (lists : List Places) (regions : Regions) (id k : ℕ)
+    → regions_of defined lists ≡ regions → id ≤ 4095 → k < region_length regions id
+    → k < length (slice_index_or lists id [])
+place_range defined lists regions id k is low there =
+    let flag = place_flag defined lists regions id k is low there in
+    let some = defined_places-small defined lists id (omega arith) ∙ slot_is defined lists id true flag in
+    let len = ap (λ rs. region_length rs id) (sym is) ∙ ap (λ o. length (unwrap_or o [])) some in
+    omega arith

@@ -1,5 +1,5 @@
 -- The chain that is begun, before and after a table page.
-use Rattle.std.proofs.Common.{◌≡◌, ℕ, ◌<◌, ◌≤◌, sym, ap, subst, ◌∙◌, Option, Some, None, List, [], ◌∷◌, ◌++◌, length, take, drop, append-nil, arith, Ok, Err, nat_lt, true, false, IfSome}
+use Rattle.std.proofs.Common.{◌≡◌, refl, IsSome, ℕ, ◌<◌, ◌≤◌, sym, ap, subst, ◌∙◌, Option, Some, None, List, [], ◌∷◌, ◌++◌, length, take, drop, append-nil, arith, Ok, Err, nat_lt, true, false, IfSome}
 use Rattle.std.proofs.lemmas.Bool.Decides.{nat_tests}
 use Rattle.std.proofs.lemmas.List.{drop_all, take_all}
 use Rattle.svga_cmd.specs.declared.fault.Fault.{Fault}
@@ -7,6 +7,7 @@ use Rattle.svga_cmd.specs.declared.fault.Fault.TheVariants as fault
 use Rattle.svga_model.specs.Regions.{Regions, places_with}
 use Rattle.svga_model.specs.Standing.{first_standing}
 use Rattle.svga_model.specs.Walks.{Tables, list_tests}
+use Rattle.svga_region.specs.ChainCalls.{IsLeftBy}
 use Rattle.svga_region.specs.Chains.{IsAnswer, Continues, Fails}
 use Rattle.svga_region.specs.Kept.{IsReading}
 use Rattle.svga_region.specs.declared.chain.Reading.{Reading}
@@ -48,3 +49,11 @@ pub list_within : (regions : Regions) (id pages : ℕ) → places_with regions i
 list_within regions id pages few = ap (λ t. first_standing ((t, fault.PlaceLimit) ∷ [])) (test (places_with regions id pages) few) where
   test : (n : ℕ) → n ≤ 65536 → nat_lt 65536 n ≡ false
   test n few = grind (arith, nat_tests)
+
+-- what stands after a table page was read, as the answer tells it
+pub left_by : (wants : Option ℕ) (next : ChainNext) (d : Chain) → next ≡ next_by wants → d.wants ≡ wants
+    → IsLeftBy (Ok next) (Some d)
+left_by wants next d is same = subst (λ n. IsLeftBy (Ok n) (Some d)) (sym is) (at wants same) where
+  at : (o : Option ℕ) → d.wants ≡ o → IsLeftBy (Ok (next_by o)) (Some d)
+  at None e = e
+  at (Some q) e = subst IsSome (sym e) refl

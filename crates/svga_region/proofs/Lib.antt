@@ -5,6 +5,7 @@ pub mod EntryLaws
 pub mod ListLaws
 pub mod PlaceLaws
 pub mod PutLaws
+pub mod ReadLaws
 pub mod TableLaws
 pub mod WalkLaws
 pub mod WholeLaws

@@ -85,3 +85,10 @@ put_whole lists slot n news within many =
     set-set lists slot (replicate n None) (remapped (slice_index_or (slice_set lists slot (replicate n None)) slot []) 0 news)
     ∙ ap (λ xs. slice_set lists slot (remapped xs 0 news)) (get_or-set_same lists slot (replicate n None) [] within)
     ∙ ap (slice_set lists slot) (remapped_all (replicate n None) news (omega (arith, length-replicate {A = Option PageKey} n None)))
+
+-- one value alone
+pub put_one : (lists : List Places) (slot at : ℕ) (y : Option PageKey) → slot < length lists → at < length (slice_index_or lists slot [])
+    → slice_set lists slot (slice_set (slice_index_or lists slot []) at y) ≡ slice_set lists slot (remapped (slice_index_or lists slot []) at (y ∷ []))
+put_one lists slot at y within fits =
+    ap (λ k. slice_set lists slot (slice_set (slice_index_or lists slot []) k y)) (let e : at ≡ at + 0 = omega arith in e)
+    ∙ put_more lists lists slot at 0 [] y within refl (omega arith) (put_none lists slot at)

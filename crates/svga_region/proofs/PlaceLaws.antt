@@ -6,12 +6,13 @@ use Rattle.std.proofs.lemmas.Bool.Decides.{nat_tests}
 use Rattle.std.proofs.lemmas.List.{get_or_default}
 use Rattle.std.proofs.lemmas.List.FromFn.{length-map-range_with_len, get_or-map-range_with_len}
 use Rattle.std.specs.FinMap as map
+use Rattle.svga_cmd.specs.declared.constants.TheConstants.{SVGA_GMR_FRAMEBUFFER}
 use Rattle.svga_cmd.specs.declared.fault.Fault.{Fault}
 use Rattle.svga_cmd.specs.declared.fault.Fault.TheVariants as fault
 use Rattle.svga_cmd.specs.declared.page.PageKey.TheVariants.{Frame}
 use Rattle.svga_model.proofs.TabulatedLaws.{get-tabulated}
 use Rattle.svga_model.specs.RegionBytes.{byte_tests, byte_location, page_of_byte, holds_of, is_beyond, is_unmapped, located}
-use Rattle.svga_model.specs.Regions.{Places, Regions, frame_region, frame_places, defined_places, places_of}
+use Rattle.svga_model.specs.Regions.{Places, Regions, frame_places, defined_places, places_of}
 use Rattle.svga_model.specs.Standing.{first_standing}
 use Rattle.svga_region.specs.Conditions.{HasPlace}
 use Rattle.svga_region.specs.Kept.{regions_of, slot_of}
@@ -34,15 +35,15 @@ defined_places-small defined lists id l = ap (λ t. cond t None (map.get (region
 
 -- the same for any region
 pub places_of-small : (frame : ℕ) (defined : List Bool) (lists : List Places) (id : ℕ) → id < 4096 → places_of frame (regions_of defined lists) id ≡ slot_of defined lists id
-places_of-small frame defined lists id l = ap (λ t. cond t (Some (frame_places frame)) (defined_places (regions_of defined lists) id)) (let t : (id == frame_region) ≡ false = grind (arith, nat_tests) in t) ∙ defined_places-small defined lists id l
+places_of-small frame defined lists id l = ap (λ t. cond t (Some (frame_places frame)) (defined_places (regions_of defined lists) id)) (let t : (id == SVGA_GMR_FRAMEBUFFER) ≡ false = grind (arith, nat_tests) in t) ∙ defined_places-small defined lists id l
 
 -- the framebuffer
-pub places_of-frame : (frame : ℕ) (regions : Regions) (id : ℕ) → id ≡ frame_region → places_of frame regions id ≡ Some (frame_places frame)
+pub places_of-frame : (frame : ℕ) (regions : Regions) (id : ℕ) → id ≡ SVGA_GMR_FRAMEBUFFER → places_of frame regions id ≡ Some (frame_places frame)
 places_of-frame frame regions id e = ap (places_of frame regions) e
 
 -- an id that names no region
-pub places_of-large : (frame : ℕ) (regions : Regions) (id : ℕ) → 4095 < id → id ≢ frame_region → places_of frame regions id ≡ None
-places_of-large frame regions id l ne = ap (λ t. cond t (Some (frame_places frame)) (defined_places regions id)) (let t : (id == frame_region) ≡ false = grind (arith, nat_tests) in t)
+pub places_of-large : (frame : ℕ) (regions : Regions) (id : ℕ) → 4095 < id → id ≢ SVGA_GMR_FRAMEBUFFER → places_of frame regions id ≡ None
+places_of-large frame regions id l ne = ap (λ t. cond t (Some (frame_places frame)) (defined_places regions id)) (let t : (id == SVGA_GMR_FRAMEBUFFER) ≡ false = grind (arith, nat_tests) in t)
     ∙ ap (λ t. cond t None (map.get regions id)) (let t : nat_lt 4095 id ≡ true = grind (arith, nat_tests) in t)
 
 -- the framebuffer
@@ -70,7 +71,7 @@ abbrev pub list_tests : Places → ℕ → List (Bool × Fault)
 list_tests places i = (is_unmapped places i, fault.Unmapped) ∷ (is_beyond places i, fault.BeyondRegion) ∷ []
 
 -- the tests of a byte of the framebuffer
-pub byte_tests-frame : (frame : ℕ) (regions : Regions) (id i : ℕ) → id ≡ frame_region → first_standing (byte_tests frame regions id i) ≡ first_standing (list_tests (frame_places frame) i)
+pub byte_tests-frame : (frame : ℕ) (regions : Regions) (id i : ℕ) → id ≡ SVGA_GMR_FRAMEBUFFER → first_standing (byte_tests frame regions id i) ≡ first_standing (list_tests (frame_places frame) i)
 byte_tests-frame frame regions id i e = ap (λ id. first_standing (byte_tests frame regions id i)) e
 
 -- the tests of a byte, by what the slot has
@@ -81,7 +82,7 @@ byte_tests-small frame defined lists id i l =
     let high : nat_lt 4095 id ≡ false = grind (arith, nat_tests) in
     let slot = defined_places-small defined lists id l in
     let region = places_of-small frame defined lists id l in
-    λ j. first_standing ((low j && is_none (slot j), fault.NoRegion) ∷ (high j && not (id == frame_region), fault.RegionId) ∷ (holds_of (region j) (λ places. is_unmapped places i), fault.Unmapped) ∷ (holds_of (region j) (λ places. is_beyond places i), fault.BeyondRegion) ∷ [])
+    λ j. first_standing ((low j && is_none (slot j), fault.NoRegion) ∷ (high j && not (id == SVGA_GMR_FRAMEBUFFER), fault.RegionId) ∷ (holds_of (region j) (λ places. is_unmapped places i), fault.Unmapped) ∷ (holds_of (region j) (λ places. is_beyond places i), fault.BeyondRegion) ∷ [])
 
 -- a byte where no region is defined
 pub byte_tests-none : (frame : ℕ) (defined : List Bool) (lists : List Places) (id i : ℕ) → id < 4096 → slice_index_or defined id false ≡ false → first_standing (byte_tests frame (regions_of defined lists) id i) ≡ Some fault.NoRegion
@@ -107,7 +108,7 @@ frame_beyond frame i l =
     λ j. first_standing ((not (beyond j) && is_none (page_of_byte (frame_places frame) i), fault.Unmapped) ∷ (beyond j, fault.BeyondRegion) ∷ [])
 
 -- where a byte of the framebuffer lies
-pub located-frame : (frame : ℕ) (regions : Regions) (id i : ℕ) → id ≡ frame_region → i / 4096 < frame → located frame regions id i ≡ Some (Frame (i / 4096), i % 4096)
+pub located-frame : (frame : ℕ) (regions : Regions) (id i : ℕ) → id ≡ SVGA_GMR_FRAMEBUFFER → i / 4096 < frame → located frame regions id i ≡ Some (Frame (i / 4096), i % 4096)
 located-frame frame regions id i e l = ap (option_and_then (λ places. byte_location places i)) (places_of-frame frame regions id e) ∙ ap (option_map (λ key. (key, i % 4096))) (frame_place frame (i / 4096) l)
 
 -- where a byte of a defined region lies
@@ -130,14 +131,14 @@ place-small frame defined lists id k l has = go (slice_index_or defined id false
   go false e has = let P : Option Places → Type 0 = λ o. HasPlace o k in absurd (subst P (slot_is defined lists id false e) has)
 
 -- a place of the framebuffer
-pub place-frame : (frame : ℕ) (regions : Regions) (id k : ℕ) → id ≡ frame_region → HasPlace (places_of frame regions id) k → Some (Frame k) ≡ slice_index_or (unwrap_or (places_of frame regions id) []) k None
+pub place-frame : (frame : ℕ) (regions : Regions) (id k : ℕ) → id ≡ SVGA_GMR_FRAMEBUFFER → HasPlace (places_of frame regions id) k → Some (Frame k) ≡ slice_index_or (unwrap_or (places_of frame regions id) []) k None
 place-frame frame regions id k e has =
     let P : Option Places → Type 0 = λ o. HasPlace o k in
     let below : k < length (frame_places frame) = subst P (places_of-frame frame regions id e) has in
     sym (frame_place frame k (omega (arith, length-frame_places frame))) ∙ ap (λ o. slice_index_or (unwrap_or o []) k None) (sym (places_of-frame frame regions id e))
 
 -- an id that has a place is the framebuffer's or up to 4,095
-pub place_id : (frame : ℕ) (regions : Regions) (id k : ℕ) → id ≢ frame_region → HasPlace (places_of frame regions id) k → id < 4096
+pub place_id : (frame : ℕ) (regions : Regions) (id k : ℕ) → id ≢ SVGA_GMR_FRAMEBUFFER → HasPlace (places_of frame regions id) k → id < 4096
 place_id frame regions id k ne has = elim (cases_lt id 4096) as (λ _. id < 4096) [
   | inl small ↦ small
   | inr large ↦ let P : Option Places → Type 0 = λ o. HasPlace o k in absurd (subst P (places_of-large frame regions id (omega arith) ne) has)

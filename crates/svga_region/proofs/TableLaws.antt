@@ -4,7 +4,7 @@ use Rattle.std.proofs.lemmas.Bool.Decides.{nat_tests}
 use Rattle.svga_cmd.specs.declared.fault.Fault.{Fault}
 use Rattle.svga_cmd.specs.declared.fault.Fault.TheVariants as fault
 use Rattle.svga_model.specs.Standing.{first_standing}
-use Rattle.svga_model.specs.Walks.{Tables, TablePlace, Descriptor, descriptor_in, is_end, is_good_link, is_good_run, is_bad, next_place, places_from, run_pages, last_tests, unless}
+use Rattle.svga_model.specs.Walks.{Tables, TablePosition, Descriptor, descriptor_in, is_end, is_good_link, is_good_run, is_bad, next_position, positions_from, run_pages, last_tests, unless}
 use Rattle.svga_region.proofs.WalkLaws.{place_on, AreGoodRuns, places_from-none, places_from-zero, entered_stops, outcome_stops, entered_goes, entered_next, outcome_goes_on}
 use Rattle.svga_region.specs.Chains.{Ends, Fails, GoesOn}
 use Rattle.svga_region.specs.Kept.{table_pages}
@@ -67,22 +67,22 @@ none_bad : (guest : ℕ) (d : Descriptor) → d.page ≡ 0 → d.count ≡ 0 →
 none_bad guest d e f = grind (arith, nat_tests)
 
 -- no next place where there is neither a good link nor a good run on the way
-no_next : (guest : ℕ) (at : TablePlace) (d : Descriptor) → is_good_link guest d ≡ false → (is_good_run guest d && nat_lt at.pair 511) ≡ false → next_place guest at d ≡ None
+no_next : (guest : ℕ) (at : TablePosition) (d : Descriptor) → is_good_link guest d ≡ false → (is_good_run guest d && nat_lt at.pair 511) ≡ false → next_position guest at d ≡ None
 no_next guest at d link run = λ j. cond (link j) (Some (place_on d.page 0)) (cond (run j) (Some (place_on at.table (at.pair + 1))) None)
 
 -- the tests at the last place, by their answers
-last_bad : (guest m : ℕ) (at : TablePlace) (d : Descriptor) → is_bad guest d ≡ true → first_standing (last_tests guest m at d) ≡ Some fault.BadPage
+last_bad : (guest m : ℕ) (at : TablePosition) (d : Descriptor) → is_bad guest d ≡ true → first_standing (last_tests guest m at d) ≡ Some fault.BadPage
 last_bad guest m at d bad = λ i. first_standing ((bad i, fault.BadPage) ∷ (is_good_run guest d && at.pair == 511, fault.ChainEnd) ∷ (nat_le 4096 m && not (is_end d), fault.ChainLimit) ∷ [])
 
 -- a good run as descriptor 511
-last_on_page : (guest m : ℕ) (at : TablePlace) (d : Descriptor) → is_good_run guest d ≡ true → at.pair ≡ 511 → first_standing (last_tests guest m at d) ≡ Some fault.ChainEnd
+last_on_page : (guest m : ℕ) (at : TablePosition) (d : Descriptor) → is_good_run guest d ≡ true → at.pair ≡ 511 → first_standing (last_tests guest m at d) ≡ Some fault.ChainEnd
 last_on_page guest m at d good last =
     let bad = good_bad guest d good in
     let pair : (at.pair == 511) ≡ true = grind (arith, nat_tests) in
     λ i. first_standing ((bad i, fault.BadPage) ∷ (good i && pair i, fault.ChainEnd) ∷ (nat_le 4096 m && not (is_end d), fault.ChainLimit) ∷ [])
 
 -- the 4,096th descriptor
-last_of_all : (guest m : ℕ) (at : TablePlace) (d : Descriptor) → is_bad guest d ≡ false → (is_good_run guest d && at.pair == 511) ≡ false → is_end d ≡ false → m ≡ 4096 → first_standing (last_tests guest m at d) ≡ Some fault.ChainLimit
+last_of_all : (guest m : ℕ) (at : TablePosition) (d : Descriptor) → is_bad guest d ≡ false → (is_good_run guest d && at.pair == 511) ≡ false → is_end d ≡ false → m ≡ 4096 → first_standing (last_tests guest m at d) ≡ Some fault.ChainLimit
 last_of_all guest m at d bad inside more all =
     let limit : nat_le 4096 m ≡ true = grind (arith, nat_tests) in
     λ i. first_standing ((bad i, fault.BadPage) ∷ (inside i, fault.ChainEnd) ∷ (limit i && not (more i), fault.ChainLimit) ∷ [])
@@ -93,7 +93,7 @@ off true = refl
 off false = refl
 
 -- the end
-last_end : (guest m : ℕ) (at : TablePlace) (d : Descriptor) → is_bad guest d ≡ false → is_good_run guest d ≡ false → is_end d ≡ true → first_standing (last_tests guest m at d) ≡ None
+last_end : (guest m : ℕ) (at : TablePosition) (d : Descriptor) → is_bad guest d ≡ false → is_good_run guest d ≡ false → is_end d ≡ true → first_standing (last_tests guest m at d) ≡ None
 last_end guest m at d bad run end =
     let limit = ap (λ e. nat_le 4096 m && not e) end ∙ off (nat_le 4096 m) in
     λ i. first_standing ((bad i, fault.BadPage) ∷ (run i && at.pair == 511, fault.ChainEnd) ∷ (limit i, fault.ChainLimit) ∷ [])
@@ -111,7 +111,7 @@ module _ (guest : ℕ) (tables : Tables) (p : ℕ) (c : Chain) (bytes : List ℕ
       let next = no_next guest (place_on p 511) d (good_link guest d last) (λ i. last i && false) in
       let n = 4096 - c.count - 512 in
       let left : 4096 - c.count ≡ 511 + suc n = omega arith in
-      let none = ap (places_from n guest tables) next ∙ places_from-none n guest tables in
+      let none = ap (positions_from n guest tables) next ∙ places_from-none n guest tables in
       record {
         over = refl;
         entered = entered_stops guest tables p c 511 n wants left (omega arith) (runs_of guest tables p bytes k same good 511 (omega arith)) none;
@@ -126,7 +126,7 @@ module _ (guest : ℕ) (tables : Tables) (p : ℕ) (c : Chain) (bytes : List ℕ
       let d = descriptor_in (tables p) j in
       let last = ap (λ bs. is_good_run guest (descriptor_in bs j)) same ∙ good j (omega arith) in
       let left : 4096 - c.count ≡ j + suc 0 = omega arith in
-      let none = places_from-zero guest tables (next_place guest (place_on p j) d) in
+      let none = places_from-zero guest tables (next_position guest (place_on p j) d) in
       let inside : (j == 511) ≡ false = grind (arith, nat_tests) in
       record {
         over = refl;
@@ -141,9 +141,9 @@ module _ (guest : ℕ) (tables : Tables) (p : ℕ) (c : Chain) (bytes : List ℕ
     here = ap (λ bs. descriptor_in bs k) same ∙ sym is
 
     -- the walk ends there with a fault
-    fails : (f : Fault) → (n : ℕ) → 4096 - c.count ≡ k + suc n → places_from n guest tables (next_place guest (place_on p k) d) ≡ [] → first_standing (last_tests guest (c.count + k + 1) (place_on p k) d) ≡ Some f → Fails guest tables p c f None
+    fails : (f : Fault) → (n : ℕ) → 4096 - c.count ≡ k + suc n → positions_from n guest tables (next_position guest (place_on p k) d) ≡ [] → first_standing (last_tests guest (c.count + k + 1) (place_on p k) d) ≡ Some f → Fails guest tables p c f None
     fails f n left none test =
-        let stops = ap (λ d. places_from n guest tables (next_place guest (place_on p k) d)) here ∙ none in
+        let stops = ap (λ d. positions_from n guest tables (next_position guest (place_on p k) d)) here ∙ none in
         record {
           over = refl;
           entered = entered_stops guest tables p c k n wants left (omega arith) (runs_of guest tables p bytes k same good k (omega arith)) stops;
@@ -156,7 +156,7 @@ module _ (guest : ℕ) (tables : Tables) (p : ℕ) (c : Chain) (bytes : List ℕ
     fails_run long bad =
         let n = 4096 - c.count - k - 1 in
         let next = no_next guest (place_on p k) d (long_link guest d long) (λ i. bad i && nat_lt k 511) in
-        fails fault.BadPage n (omega arith) (ap (places_from n guest tables) next ∙ places_from-none n guest tables) (last_bad guest (c.count + k + 1) (place_on p k) d (long_bad guest d long bad))
+        fails fault.BadPage n (omega arith) (ap (positions_from n guest tables) next ∙ places_from-none n guest tables) (last_bad guest (c.count + k + 1) (place_on p k) d (long_bad guest d long bad))
 
     -- a link to no guest page
     pub fails_link : d.count ≡ 0 → 0 < d.page → guest ≤ d.page → Fails guest tables p c fault.BadPage None
@@ -164,13 +164,13 @@ module _ (guest : ℕ) (tables : Tables) (p : ℕ) (c : Chain) (bytes : List ℕ
         let n = 4096 - c.count - k - 1 in
         let run = short_run guest d none in
         let next = no_next guest (place_on p k) d (far_link guest d far) (λ i. run i && nat_lt k 511) in
-        fails fault.BadPage n (omega arith) (ap (places_from n guest tables) next ∙ places_from-none n guest tables) (last_bad guest (c.count + k + 1) (place_on p k) d (far_bad guest d none some far))
+        fails fault.BadPage n (omega arith) (ap (positions_from n guest tables) next ∙ places_from-none n guest tables) (last_bad guest (c.count + k + 1) (place_on p k) d (far_bad guest d none some far))
 
     -- the 4,096th descriptor is a link
     pub fails_at_link : d.count ≡ 0 → 0 < d.page → d.page < guest → c.count + k ≡ 4095 → Fails guest tables p c fault.ChainLimit None
     fails_at_link none some near all =
         let run = short_run guest d none in
-        fails fault.ChainLimit 0 (omega arith) (places_from-zero guest tables (next_place guest (place_on p k) d)) (last_of_all guest (c.count + k + 1) (place_on p k) d (near_bad guest d none near) (λ i. run i && k == 511) (near_end d some) (omega arith))
+        fails fault.ChainLimit 0 (omega arith) (places_from-zero guest tables (next_position guest (place_on p k) d)) (last_of_all guest (c.count + k + 1) (place_on p k) d (near_bad guest d none near) (λ i. run i && k == 511) (near_end d some) (omega arith))
 
     -- the end
     pub ends : d.count ≡ 0 → d.page ≡ 0 → (e : Chain) → e.id ≡ c.id → e.wants ≡ None → e.pages ≡ (c.pages ++ table_pages bytes k) ++ run_pages d → Ends guest tables p c e
@@ -179,7 +179,7 @@ module _ (guest : ℕ) (tables : Tables) (p : ℕ) (c : Chain) (bytes : List ℕ
         let left : 4096 - c.count ≡ k + suc n = omega arith in
         let run = short_run guest d none in
         let next = no_next guest (place_on p k) d (none_link guest d first) (λ i. run i && nat_lt k 511) in
-        let stops = ap (λ d. places_from n guest tables (next_place guest (place_on p k) d)) here ∙ ap (places_from n guest tables) next ∙ places_from-none n guest tables in
+        let stops = ap (λ d. positions_from n guest tables (next_position guest (place_on p k) d)) here ∙ ap (positions_from n guest tables) next ∙ places_from-none n guest tables in
         record {
           id = id;
           wants = over;
@@ -197,8 +197,8 @@ module _ (guest : ℕ) (tables : Tables) (p : ℕ) (c : Chain) (bytes : List ℕ
         let m = n - 1 in
         let longer : n ≡ suc m = omega arith in
         let link = near_link guest d none some near in
-        let next : next_place guest (place_on p k) d ≡ Some (place_on d.page 0) = λ i. cond (link i) (Some (place_on d.page 0)) (cond (is_good_run guest d && nat_lt k 511) (Some (place_on p (k + 1))) None) in
-        let on = ap (λ d. next_place guest (place_on p k) d) here ∙ next in
+        let next : next_position guest (place_on p k) d ≡ Some (place_on d.page 0) = λ i. cond (link i) (Some (place_on d.page 0)) (cond (is_good_run guest d && nat_lt k 511) (Some (place_on p (k + 1))) None) in
+        let on = ap (λ d. next_position guest (place_on p k) d) here ∙ next in
         let runs = runs_of guest tables p bytes k same good k (omega arith) in
         record {
           id = id;

@@ -1,5 +1,5 @@
 -- What calls ask of their callers.
-use Rattle.std.specs.Prelude.{◌≡◌, ◌<◌, ℕ, IsSome, IsSomeAnd, None, Option, length}
+use Rattle.std.specs.Prelude.{◌≡◌, ◌<◌, ℕ, ⊤, IsSome, IsSomeAnd, None, Option, length}
 use Rattle.svga_cmd.specs.declared.remap.RemapData.{RemapData}
 use Rattle.svga_cmd.specs.declared.remap.RemapData.TheVariants.{Ppn32, Ppn64, SinglePpn32, SinglePpn64, ViaGmr32, ViaGmr64}
 use Rattle.svga_model.specs.Regions.{Places}
@@ -7,10 +7,10 @@ use Rattle.svga_region.specs.RegionSet.{Chain}
 
 -- the entries name their pages themselves
 abbrev pub AreNamed : RemapData → Type 0
-AreNamed (Ppn32 list) = Unit {0}
-AreNamed (Ppn64 list) = Unit {0}
-AreNamed (SinglePpn32 page) = Unit {0}
-AreNamed (SinglePpn64 low high) = Unit {0}
+AreNamed (Ppn32 list) = ⊤
+AreNamed (Ppn64 list) = ⊤
+AreNamed (SinglePpn32 page) = ⊤
+AreNamed (SinglePpn64 low high) = ⊤
 AreNamed (ViaGmr32 pointer) = ⊥
 AreNamed (ViaGmr64 pointer) = ⊥
 
@@ -19,9 +19,9 @@ abbrev pub HasPlace : Option Places → ℕ → Type 0
 HasPlace region k = IsSomeAnd region (λ places. k < length places)
 
 -- a chain is begun and its end isn't read
-abbrev pub IsBegun : Option Chain → Type 0
-IsBegun chain = IsSomeAnd chain (λ c. IsSome c.wants)
+abbrev pub IsChainBegun : Option Chain → Type 0
+IsChainBegun chain = IsSomeAnd chain (λ c. IsSome c.wants)
 
 -- a chain is begun and its end is read
-abbrev pub IsWhole : Option Chain → Type 0
-IsWhole chain = IsSomeAnd chain (λ c. c.wants ≡ None)
+abbrev pub IsChainWhole : Option Chain → Type 0
+IsChainWhole chain = IsSomeAnd chain (λ c. c.wants ≡ None)

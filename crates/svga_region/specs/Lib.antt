@@ -1,5 +1,8 @@
+pub mod ChainCalls
 pub mod Chains
 pub mod Conditions
 pub mod Kept
 pub mod Next
+pub mod Numbers
 pub mod RegionSet
+pub mod WholeChains

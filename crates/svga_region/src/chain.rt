@@ -11,7 +11,8 @@ pub enum ChainNext {
     Whole,
 }
 
-/// A chain that is being read: for which region, how many descriptors were read, and which table page is wanted.
+/// A chain that is being read: for which region, how many descriptors were read, and which table page is
+/// wanted.
 #[derive(Clone, Copy, Debug)]
 pub struct Reading {
     pub id: u32,

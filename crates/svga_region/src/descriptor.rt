@@ -4,8 +4,10 @@ ghost use Rattle.svga_model.specs.Walks.{descriptor_in, is_good_run as good_run}
 ghost use Rattle.svga_region.specs.Kept.{as_descriptor};
 
 use byteorder::{ByteOrder, LittleEndian};
+use svga_cmd::constants::{PAGE_SIZE, TABLE_PAIRS};
 
-/// A page and a count: a run of pages, a link to a table page where the count is 0, or the end where both are.
+/// A page and a count: a run of pages, a link to a table page where the count is 0, or the end where both
+/// are.
 #[derive(Clone, Copy, Debug)]
 pub struct Descriptor {
     pub page: u32,
@@ -14,8 +16,8 @@ pub struct Descriptor {
 
 /// The descriptor with this number on a table page.
 pub fn read_descriptor(bytes: &[u8], pair: usize) -> Descriptor
-    requires length { length bytes.now ≡ 4096 }
-    requires within { pair < 512 }
+    requires length { length bytes.now ≡ PAGE_SIZE }
+    requires within { pair < TABLE_PAIRS }
     ensures { as_descriptor result ≡ descriptor_in bytes.now pair }
 {
     let at = 8 * pair;

@@ -6,6 +6,7 @@ ghost use Rattle.svga_cmd.specs.WellFormed.{HasEntries};
 ghost use Rattle.svga_model.specs.Regions.{joined_words, named_pages, range_pages};
 
 use svga_cmd::EntriesRef;
+use svga_cmd::constants::MAX_GUEST_PAGES;
 
 /// Whether a number of 64 bits is no guest page's.
 fn is_bad_page(guest: u32, low: u32, high: u32) -> bool
@@ -16,7 +17,9 @@ fn is_bad_page(guest: u32, low: u32, high: u32) -> bool
 
 fn some_bad_pair(guest: u32, words: &[u32], pages: u32) -> bool
     requires { length words.now ≡ 2 * pages }
-    ensures { result ≡ list_any (λ k. nat_le guest (joined_words (slice_index words.now (2 * k)) (slice_index words.now (2 * k + 1)))) (range_with_len 0 pages) }
+    ensures { result ≡ list_any (λ k. nat_le guest
+        (joined_words (slice_index words.now (2 * k)) (slice_index words.now (2 * k + 1))))
+        (range_with_len 0 pages) }
 {
     (0..pages as usize).any(|k| is_bad_page(guest, words[2 * k], words[2 * k + 1]))
 }
@@ -40,7 +43,7 @@ pub fn name_bad_page(guest: u32, entries: EntriesRef<'_>, pages: u32) -> bool
 pub fn entry_page(guest: u32, entries: EntriesRef<'_>, pages: u32, k: u32) -> u32
     requires fits { HasEntries (entries_of entries) pages }
     requires good { list_any (λ n. nat_le guest n) (named_pages (entries_of entries) pages) ≡ false }
-    requires small { guest ≤ 16384 }
+    requires small { guest ≤ MAX_GUEST_PAGES }
     requires within { k < pages }
     ensures { result ≡ slice_index (range_pages (entries_of entries.entry) pages) k }
 {
@@ -48,7 +51,7 @@ pub fn entry_page(guest: u32, entries: EntriesRef<'_>, pages: u32, k: u32) -> u3
         EntriesRef::Ppn32(list) => list[k as usize],
         EntriesRef::Ppn64(list) => list[2 * k as usize],
         EntriesRef::SinglePpn32(page) => page,
-        EntriesRef::SinglePpn64 { low, high: _ } => low,
+        EntriesRef::SinglePpn64 { low, .. } => low,
         EntriesRef::ViaGmr32(_) => 0,
         EntriesRef::ViaGmr64(_) => 0,
     }

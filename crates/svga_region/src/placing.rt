@@ -10,6 +10,7 @@ ghost use Rattle.svga_rows.specs.Rows.{list_at};
 
 use crate::descriptor::Descriptor;
 use crate::entries::entry_page;
+use svga_cmd::constants::{MAX_DESCRIPTORS, MAX_GUEST_PAGES};
 use svga_cmd::{EntriesRef, PageKey};
 use svga_rows::Rows;
 
@@ -27,8 +28,10 @@ pub fn put_entries(
     requires named { AreNamed (entries_of entries) }
     requires fits { HasEntries (entries_of entries) pages }
     requires good { list_any (λ n. nat_le guest n) (named_pages (entries_of entries) pages) ≡ false }
-    requires small { guest ≤ 16384 }
-    ensures lists { lists.new.lists ≡ slice_set lists.old.lists slot (remapped (list_at lists.old slot) offset (guest_places (range_pages (entries_of entries.entry) pages))) }
+    requires small { guest ≤ MAX_GUEST_PAGES }
+    ensures lists { lists.new.lists ≡ slice_set lists.old.lists slot
+        (remapped (list_at lists.old slot) offset (guest_places
+        (range_pages (entries_of entries.entry) pages))) }
     ensures room { lists.new.room ≡ lists.old.room }
 {
     for k in 0..pages {
@@ -47,7 +50,8 @@ fn put_run(lists: &mut Rows<Option<PageKey>>, slot: usize, at: usize, run: Descr
     requires range { at + run.count ≤ length (list_at lists.old slot) }
     requires near { at < 2 ^ 32 }
     requires short { IsShortRun run }
-    ensures lists { lists.new.lists ≡ slice_set lists.old.lists slot (remapped (list_at lists.old slot) at (guest_places (range_with_len run.page run.count))) }
+    ensures lists { lists.new.lists ≡ slice_set lists.old.lists slot
+        (remapped (list_at lists.old slot) at (guest_places (range_with_len run.page run.count))) }
     ensures room { lists.new.room ≡ lists.old.room }
 {
     for k in 0..run.count {
@@ -58,10 +62,11 @@ fn put_run(lists: &mut Rows<Option<PageKey>>, slot: usize, at: usize, run: Descr
 /// Puts the pages of all runs, one run behind another.
 pub fn put_runs(lists: &mut Rows<Option<PageKey>>, slot: usize, runs: &[Descriptor])
     requires within { slot < length lists.old.lists }
-    requires few { length runs.now ≤ 4096 }
+    requires few { length runs.now ≤ MAX_DESCRIPTORS }
     requires range { length (kept_pages runs.now) ≤ length (list_at lists.old slot) }
     requires short { All IsShortRun runs.now }
-    ensures lists { lists.new.lists ≡ slice_set lists.old.lists slot (remapped (list_at lists.old slot) 0 (guest_places (kept_pages runs.now))) }
+    ensures lists { lists.new.lists ≡ slice_set lists.old.lists slot
+        (remapped (list_at lists.old slot) 0 (guest_places (kept_pages runs.now))) }
     ensures room { lists.new.room ≡ lists.old.room }
 {
     let mut at = 0;
@@ -73,10 +78,10 @@ pub fn put_runs(lists: &mut Rows<Option<PageKey>>, slot: usize, runs: &[Descript
 
 /// How many pages the runs list.
 pub fn listed_count(runs: &[Descriptor]) -> usize
-    requires few { length runs.now ≤ 4096 }
+    requires few { length runs.now ≤ MAX_DESCRIPTORS }
     requires short { All IsShortRun runs.now }
     ensures count { result ≡ length (kept_pages runs.now) }
-    ensures small { result ≤ 16384 * 4096 }
+    ensures small { result ≤ MAX_GUEST_PAGES * MAX_DESCRIPTORS }
 {
     let mut count = 0;
     for run in runs {

@@ -7,12 +7,12 @@ ghost use Rattle.svga_cmd.specs.Limits.{IsBetween};
 ghost use Rattle.svga_cmd.specs.WellFormed.{HasEntries};
 ghost use Rattle.svga_cmd.specs.declared.fault.Fault.TheVariants as fault;
 ghost use Rattle.svga_model.specs.RegionBytes.{byte_tests, byte_location, is_beyond, is_unmapped, located};
-ghost use Rattle.svga_model.specs.Regions.{places_of, id_tests, define_tests, with_region, remap_tests, with_remap, named_pages, range_pages};
+ghost use Rattle.svga_model.specs.Regions.{places_of, region_length, id_tests, define_tests, with_region, remap_tests, with_remap, named_pages, range_pages};
 ghost use Rattle.svga_model.specs.Standing.{first_standing};
-ghost use Rattle.svga_model.specs.Walks.{start_tests, list_tests, with_pages};
-ghost use Rattle.svga_region.specs.Chains.{Answers, begun_chain};
-ghost use Rattle.svga_region.specs.RegionSet.{Chain};
-ghost use Rattle.svga_region.specs.Conditions.{AreNamed, HasPlace, IsBegun, IsWhole};
+ghost use Rattle.svga_region.specs.ChainCalls.{FinishesChain, ReadsChain, StartsChain};
+ghost use Rattle.svga_region.specs.Conditions.{AreNamed, HasPlace, IsChainBegun, IsChainWhole};
+ghost use Rattle.svga_region.specs.Numbers.{number_tests};
+ghost use Rattle.svga_region.specs.RegionSet.{list_of, places_in};
 
 use crate::chain::{ChainNext, Reading, next_of};
 use crate::descriptor::Descriptor;
@@ -21,6 +21,10 @@ use crate::placing::{listed_count, put_entries, put_runs};
 use crate::table::read_table;
 use std::alloc::{AllocError, Global};
 use std::marker::Model;
+use svga_cmd::constants::{
+    MAX_DESCRIPTORS, MAX_FRAME_PAGES, MAX_GUEST_PAGES, MAX_PLACES, MAX_REGION_ID, PAGE_SIZE,
+    REGION_IDS, SVGA_GMR_FRAMEBUFFER,
+};
 use svga_cmd::{EntriesRef, Fault, Page, PageKey};
 use svga_rows::Rows;
 
@@ -40,6 +44,7 @@ pub struct Regions {
 impl Model for Regions {
     ghost use Rattle.std.specs.Prelude.{◌≡◌, ◌≤◌, option_map};
     ghost use Rattle.svga_cmd.specs.Limits.{IsBetween};
+    ghost use Rattle.svga_cmd.specs.declared.constants.TheConstants.{MAX_FRAME_PAGES, MAX_GUEST_PAGES, MAX_PLACES};
     ghost use Rattle.svga_region.specs.Kept.{AreRuns, AreSlots, chain_of, regions_of};
     ghost use Rattle.svga_region.specs.RegionSet.{RegionSet, coded_set};
 
@@ -47,22 +52,31 @@ impl Model for Regions {
 
     ghost coded = { coded_set };
 
-    ghost view = { λ a. record { guest = a.guest; frame = a.frame; regions = regions_of a.defined.items a.lists.lists; chain = option_map (chain_of a.runs.items) a.chain } };
+    ghost view = { λ a. record {
+      guest = a.guest;
+      frame = a.frame;
+      regions = regions_of a.defined.items
+          a.lists.lists;
+      chain = option_map (chain_of a.runs.items) a.chain;
+    } };
 
-    ghost invariant = { λ a. IsBetween 1 16384 a.guest × IsBetween 1 8192 a.frame × AreSlots a.defined.items a.lists.lists × (a.lists.room ≡ 65536) × AreRuns a.runs.items a.chain };
+    ghost invariant = { λ a. IsBetween 1 MAX_GUEST_PAGES a.guest × IsBetween 1 MAX_FRAME_PAGES a.frame
+        × AreSlots a.defined.items a.lists.lists × (a.lists.room ≡ MAX_PLACES)
+        × AreRuns a.runs.items a.chain };
 }
 
 impl Regions {
     /// No regions but the framebuffer's.
     pub fn new(alloc: Global, guest_pages: u32, frame_pages: u32) -> Result<Regions, AllocError>
-        requires guest { IsBetween 1 16384 guest_pages }
-        requires frame { IsBetween 1 8192 frame_pages }
-        ensures { IfOk result (λ regions. regions ≡ record { guest = guest_pages; frame = frame_pages; regions = map.empty; chain = None }) }
+        requires guest { IsBetween 1 MAX_GUEST_PAGES guest_pages }
+        requires frame { IsBetween 1 MAX_FRAME_PAGES frame_pages }
+        ensures { IfOk result (λ regions. regions ≡ record
+            { guest = guest_pages; frame = frame_pages; regions = map.empty; chain = None }) }
     {
-        let defined = vec![in alloc; false; 4096]?;
-        let lists = Rows::new(alloc, 4096, 65536, None)?;
+        let defined = vec![in alloc; false; REGION_IDS]?;
+        let lists = Rows::new(alloc, REGION_IDS, MAX_PLACES as usize, None)?;
         let none = Descriptor { page: 0, count: 0 };
-        let runs = vec![in alloc; none; 4096]?;
+        let runs = vec![in alloc; none; MAX_DESCRIPTORS]?;
         Ok(Regions {
             guest: guest_pages,
             frame: frame_pages,
@@ -76,16 +90,24 @@ impl Regions {
     /// Gives a region so many places, all unmapped, whatever it had before. With 0 places it goes.
     pub fn define(&mut self, id: u32, pages: u32) -> Result<(), Fault>
         ensures fault { result_err result ≡ first_standing (define_tests self.old.regions id pages) }
-        // A region that is deleted needs no room.
         ensures deletion { pages ≡ 0 → result_err result ≡ first_standing (id_tests id) }
-        ensures ok { OnOk result (self.new ≡ record self.old { regions = with_region self.old.regions id pages }) }
+        ensures ok { OnOk result (self.new ≡ record self.old
+            { regions = with_region self.old.regions id pages }) }
         ensures err { OnErr result (self.new ≡ self.old) }
     {
         self.may_define(id, pages)?;
+        self.define_allowed(id, pages);
+        Ok(())
+    }
+
+    /// `define`, where nothing refuses it.
+    pub fn define_allowed(&mut self, id: u32, pages: u32)
+        requires { first_standing (define_tests self.old.regions id pages) ≡ None }
+        ensures { self.new ≡ record self.old { regions = with_region self.old.regions id pages } }
+    {
         let slot = id as usize;
         self.lists.replace(slot, pages as usize, None);
         self.defined[slot] = pages != 0;
-        Ok(())
     }
 
     /// Maps the places from `offset` on to the pages that the entries name.
@@ -98,25 +120,57 @@ impl Regions {
     ) -> Result<(), Fault>
         requires named { AreNamed (entries_of entries) }
         requires fits { HasEntries (entries_of entries) pages }
-        ensures fault { result_err result ≡ first_standing (remap_tests self.old.guest self.old.regions id offset pages (named_pages (entries_of entries.entry) pages)) }
-        ensures ok { OnOk result (self.new ≡ record self.old { regions = with_remap self.old.regions id offset (range_pages (entries_of entries.entry) pages) }) }
+        ensures fault { result_err result ≡ first_standing
+            (remap_tests self.old.guest self.old.regions id offset pages
+            (named_pages (entries_of entries.entry) pages)) }
+        ensures ok { OnOk result (self.new ≡ record self.old {
+          regions = with_remap self.old.regions id offset
+              (range_pages (entries_of entries.entry) pages);
+        }) }
         ensures err { OnErr result (self.new ≡ self.old) }
     {
         self.may_remap(id, offset, pages, entries)?;
+        self.remap_allowed(id, offset, pages, entries);
+        Ok(())
+    }
+
+    /// `remap`, where nothing refuses it.
+    pub fn remap_allowed(&mut self, id: u32, offset: u32, pages: u32, entries: EntriesRef<'_>)
+        requires named { AreNamed (entries_of entries) }
+        requires fits { HasEntries (entries_of entries) pages }
+        requires allowed { first_standing (remap_tests self.old.guest self.old.regions id offset pages
+            (named_pages (entries_of entries) pages)) ≡ None }
+        ensures { self.new ≡ record self.old {
+          regions = with_remap self.old.regions id offset
+              (range_pages (entries_of entries.entry) pages);
+        } }
+    {
         let slot = id as usize;
         put_entries(&mut self.lists, slot, offset, self.guest, entries, pages);
-        Ok(())
+    }
+
+    /// Maps one place to a guest page.
+    pub fn map_place(&mut self, id: u32, k: u32, page: u32)
+        requires id { id ≤ MAX_REGION_ID }
+        requires there { k < region_length self.old.regions id }
+        requires page { page < self.old.guest }
+        ensures { self.new ≡ record self.old { regions = with_remap self.old.regions id k (page ∷ []) } }
+    {
+        let key = PageKey::Guest(page);
+        self.lists.set(id as usize, k as usize, Some(key));
     }
 
     /// What `define` would be refused with.
     pub fn may_define(&self, id: u32, pages: u32) -> Result<(), Fault>
-        ensures { result_err result ≡ first_standing (define_tests self.now.regions id pages) }
+        ensures fault { result_err result ≡ first_standing (define_tests self.now.regions id pages) }
+        // A region that is deleted needs no room.
+        ensures deletion { pages ≡ 0 → result_err result ≡ first_standing (id_tests id) }
     {
-        if id > 4095 {
+        if id > MAX_REGION_ID {
             return Err(Fault::RegionId);
         }
         let rest = self.lists.total() - self.lists.list(id as usize).len();
-        if rest + pages as usize > 65536 {
+        if rest + pages as usize > MAX_PLACES as usize {
             return Err(Fault::PlaceLimit);
         }
         Ok(())
@@ -124,9 +178,10 @@ impl Regions {
 
     /// What a remap of these places would be refused with if its entries name pages of the guest.
     pub fn may_remap_range(&self, id: u32, offset: u32, pages: u32) -> Result<(), Fault>
-        ensures { result_err result ≡ first_standing (remap_tests self.now.guest self.now.regions id offset pages []) }
+        ensures { result_err result ≡ first_standing
+            (remap_tests self.now.guest self.now.regions id offset pages []) }
     {
-        if id > 4095 {
+        if id > MAX_REGION_ID {
             return Err(Fault::RegionId);
         }
         let slot = id as usize;
@@ -149,9 +204,20 @@ impl Regions {
     ) -> Result<(), Fault>
         requires named { AreNamed (entries_of entries) }
         requires fits { HasEntries (entries_of entries) pages }
-        ensures { result_err result ≡ first_standing (remap_tests self.now.guest self.now.regions id offset pages (named_pages (entries_of entries.entry) pages)) }
+        ensures { result_err result ≡ first_standing
+            (remap_tests self.now.guest self.now.regions id offset pages
+            (named_pages (entries_of entries.entry) pages)) }
     {
         self.may_remap_range(id, offset, pages)?;
+        self.may_name(entries, pages)
+    }
+
+    /// What the numbers that the entries of a remap name are refused with.
+    pub fn may_name(&self, entries: EntriesRef<'_>, pages: u32) -> Result<(), Fault>
+        requires { HasEntries (entries_of entries) pages }
+        ensures { result_err result ≡ first_standing
+            (number_tests self.now.guest (named_pages (entries_of entries.entry) pages)) }
+    {
         if name_bad_page(self.guest, entries, pages) {
             return Err(Fault::BadPage);
         }
@@ -160,11 +226,11 @@ impl Regions {
 
     /// How many places a region has.
     pub fn length(&self, id: u32) -> Option<u32>
-        ensures { result ≡ option_map length (places_of self.now.frame self.now.regions id) }
+        ensures { result ≡ option_map length (list_of self.now id) }
     {
-        if id == 0xFFFF_FFFE {
+        if id == SVGA_GMR_FRAMEBUFFER {
             Some(self.frame)
-        } else if id > 4095 {
+        } else if id > MAX_REGION_ID {
             None
         } else if !self.defined[id as usize] {
             None
@@ -175,10 +241,10 @@ impl Regions {
 
     /// The page at a place, if the place is mapped.
     pub fn place(&self, id: u32, k: u32) -> Option<PageKey>
-        requires { HasPlace (places_of self.now.frame self.now.regions id) k }
-        ensures { result ≡ slice_index_or (unwrap_or (places_of self.now.frame self.now.regions id) []) k None }
+        requires { HasPlace (list_of self.now id) k }
+        ensures { result ≡ slice_index_or (places_in self.now id) k None }
     {
-        if id == 0xFFFF_FFFE {
+        if id == SVGA_GMR_FRAMEBUFFER {
             Some(PageKey::Frame(k))
         } else {
             self.lists.list(id as usize)[k as usize]
@@ -187,17 +253,21 @@ impl Regions {
 
     /// The page that a byte of a region lies on, and the byte's number there.
     pub fn locate(&self, id: u32, byte: u64) -> Result<(PageKey, u16), Fault>
-        ensures fault { result_err result ≡ first_standing (byte_tests self.now.frame self.now.regions id byte) }
+        ensures fault { result_err result ≡ first_standing
+            (byte_tests self.now.frame self.now.regions id byte) }
         ensures located { IfOk result (λ at. located self.now.frame self.now.regions id byte ≡ Some at) }
     {
-        if id == 0xFFFF_FFFE {
-            let page = byte / 4096;
+        if id == SVGA_GMR_FRAMEBUFFER {
+            let page = byte / PAGE_SIZE as u64;
             if page < self.frame as u64 {
-                Ok((PageKey::Frame(page as u32), (byte % 4096) as u16))
+                Ok((
+                    PageKey::Frame(page as u32),
+                    (byte % PAGE_SIZE as u64) as u16,
+                ))
             } else {
                 Err(Fault::BeyondRegion)
             }
-        } else if id > 4095 {
+        } else if id > MAX_REGION_ID {
             Err(Fault::RegionId)
         } else if !self.defined[id as usize] {
             Err(Fault::NoRegion)
@@ -206,14 +276,13 @@ impl Regions {
         }
     }
 
-    /// Begins a chain of descriptors for a region, with its first table page. It takes the place of a chain that is under way.
+    /// Begins a chain of descriptors for a region, with its first table page. It takes the place of a chain
+    /// that is under way.
     pub fn chain_start(&mut self, id: u32, first: u32) -> Result<(), Fault>
         requires { first ≢ 0 }
-        ensures fault { result_err result ≡ first_standing (start_tests self.old.guest id first) }
-        ensures ok { OnOk result (self.new ≡ record self.old { chain = Some (begun_chain id first) }) }
-        ensures err { OnErr result (self.new ≡ self.old) }
+        ensures { StartsChain self.old id first result self.new }
     {
-        if id > 4095 {
+        if id > MAX_REGION_ID {
             return Err(Fault::RegionId);
         }
         if first >= self.guest {
@@ -229,9 +298,8 @@ impl Regions {
 
     /// Reads the table page that is wanted next. A refusal ends the chain.
     pub fn chain_page(&mut self, page: &Page) -> Result<ChainNext, Fault>
-        requires { IsBegun self.old.chain }
-        ensures answer { Answers self.old.guest self.old.chain page.now result self.new.chain }
-        ensures kept { self.new ≡ record self.old { chain = self.new.chain } }
+        requires { IsChainBegun self.old.chain }
+        ensures { ReadsChain self.old page.now result self.new }
     {
         let reading = self.chain.unwrap();
         match read_table(page.bytes(), self.guest, &mut self.runs, reading) {
@@ -248,10 +316,8 @@ impl Regions {
 
     /// Gives the region the list of the chain that was read. Either way no chain is under way any more.
     pub fn chain_finish(&mut self) -> Result<(), Fault>
-        requires { IsWhole self.old.chain }
-        ensures fault { (c : Chain) → self.old.chain ≡ Some c → result_err result ≡ first_standing (list_tests self.old.regions c.id (length c.pages)) }
-        ensures ok { OnOk result ((c : Chain) → self.old.chain ≡ Some c → self.new ≡ record self.old { regions = with_pages self.old.regions c.id c.pages; chain = None }) }
-        ensures err { OnErr result (self.new ≡ record self.old { chain = None }) }
+        requires { IsChainWhole self.old.chain }
+        ensures { FinishesChain self.old result self.new }
     {
         let reading = self.chain.unwrap();
         self.chain = None;
@@ -259,7 +325,7 @@ impl Regions {
         let runs = &self.runs[..reading.count];
         let pages = listed_count(runs);
         let rest = self.lists.total() - self.lists.list(slot).len();
-        if rest + pages > 65536 {
+        if rest + pages > MAX_PLACES as usize {
             return Err(Fault::PlaceLimit);
         }
         self.lists.replace(slot, pages, None);
@@ -270,14 +336,15 @@ impl Regions {
 }
 
 fn locate_in(places: &[Option<PageKey>], byte: u64) -> Result<(PageKey, u16), Fault>
-    ensures fault { result_err result ≡ first_standing ((is_unmapped places.now byte, fault.Unmapped) ∷ (is_beyond places.now byte, fault.BeyondRegion) ∷ []) }
+    ensures fault { result_err result ≡ first_standing
+        ((is_unmapped places.now byte, fault.Unmapped) ∷ (is_beyond places.now byte, fault.BeyondRegion) ∷ []) }
     ensures located { IfOk result (λ at. byte_location places.now byte ≡ Some at) }
 {
-    if byte / 4096 >= places.len() as u64 {
+    if byte / PAGE_SIZE as u64 >= places.len() as u64 {
         return Err(Fault::BeyondRegion);
     }
-    match places[(byte / 4096) as usize] {
+    match places[(byte / PAGE_SIZE as u64) as usize] {
         None => Err(Fault::Unmapped),
-        Some(key) => Ok((key, (byte % 4096) as u16)),
+        Some(key) => Ok((key, (byte % PAGE_SIZE as u64) as u16)),
     }
 }

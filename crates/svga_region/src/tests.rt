@@ -2,7 +2,7 @@
 ghost use Rattle.std.specs.Prelude.{◌≡◌, ◌+◌, ◌*◌, ◌≤◌, ◌<◌, ℕ, IfOk, length};
 
 use crate::Regions;
-use crate::whole_chain::read_chain;
+use crate::reading::read_chain;
 use byteorder::{ByteOrder, LittleEndian};
 use std::alloc::{AllocError, Global};
 use std::test::Fail;
@@ -18,8 +18,8 @@ fn put_words(page: &mut Page, pair: usize, words: &[u32])
     }
 }
 
-/// A guest of 32 pages: at page 5 a chain of two table pages, at 6 one that goes round, at 8 one that runs off its page,
-/// at 9 and 10 a run and a link past the last page.
+/// A guest of 32 pages: at page 5 a chain of two table pages, at 6 one that goes round, at 8 one that runs
+/// off its page, at 9 and 10 a run and a link past the last page.
 fn guest(alloc: Global) -> Result<Vec<Page>, AllocError>
     ensures { IfOk result (λ pages. length pages.items ≡ 32) }
 {

@@ -41,16 +41,26 @@ has_chain (Do c ∷ acts) = has_chain acts
 has_chain (Put key bytes ∷ acts) = has_chain acts
 has_chain (Chain id first ∷ acts) = true
 
--- What is settled once n commands are done: the acts before command n, and the Puts behind. While a chain is out that is
--- asked for, it is the last one, and is left out with what stands behind it but for Puts.
+-- What is settled once n commands are done: the acts before command n, and the Puts behind. While a chain is
+-- out that is asked for, it is the last one, and is left out with what stands behind it but for Puts.
 abbrev pub settled : ℕ → Bool → List Act → List Act
 settled n out [] = []
 settled zero out (Do c ∷ acts) = puts_of acts
 settled (suc n) out (Do c ∷ acts) = Do c ∷ settled n out acts
 settled n out (Put key bytes ∷ acts) = Put key bytes ∷ settled n out acts
-settled n out (Chain id first ∷ acts) = if out && not (has_chain acts) then puts_of acts else Chain id first ∷ settled n out acts
+settled n out (Chain id first ∷ acts) = if out && not (has_chain acts) then puts_of acts else Chain id first
+    ∷ settled n out acts
 
--- how many fences have passed where so many commands are done: theirs, and the one in hand where its number is stored
+-- the acts without the commands from number n on
+abbrev pub without_commands_from : ℕ → List Act → List Act
+without_commands_from n [] = []
+without_commands_from zero (Do c ∷ acts) = without_commands_from zero acts
+without_commands_from (suc n) (Do c ∷ acts) = Do c ∷ without_commands_from n acts
+without_commands_from n (Put key bytes ∷ acts) = Put key bytes ∷ without_commands_from n acts
+without_commands_from n (Chain id first ∷ acts) = Chain id first ∷ without_commands_from n acts
+
+-- how many fences have passed where so many commands are done: theirs, and the one in hand where its number
+-- is stored
 abbrev pub fences_passed : List Command → ℕ → Bool → ℕ
 fences_passed cs done stored = length (fences (take done cs)) + (if stored then 1 else 0)
 

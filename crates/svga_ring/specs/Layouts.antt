@@ -1,11 +1,12 @@
 -- Where the words that are sent stand in the ring, counted over all that are ever sent.
 use Rattle.std.specs.Prelude.{◌≡◌, ℕ, ◌+◌, ◌-◌, ◌%◌, ◌≤◌}
+use Rattle.svga_cmd.specs.declared.constants.TheConstants.{MAX_RING_END, MIN_RING_END, RING_START}
 use Rattle.svga_model.specs.Addresses.{address, dwords_between}
 use Rattle.svga_ring.specs.SharedTable.{first_cell}
 
 -- MIN: the byte at which the ring begins
 abbrev pub ring_start : ℕ
-ring_start = 1164
+ring_start = RING_START
 
 -- the byte at which the ring ends, and the number of a word that stands at its start
 pub record Layout : Type 0 where
@@ -14,8 +15,8 @@ pub record Layout : Type 0 where
 
 -- the end is that of a session's ring
 pub record IsLayout (lay : Layout) : Type 0 where
-  pub least : 11404 ≤ lay.max
-  pub most : lay.max ≤ 262144
+  pub least : MIN_RING_END ≤ lay.max
+  pub most : lay.max ≤ MAX_RING_END
   pub whole : lay.max % 4 ≡ 0
 
 abbrev pub ring_dwords : Layout → ℕ

@@ -3,10 +3,11 @@ pub mod Conditions
 pub mod Core
 pub mod Layouts
 pub mod Lists
+pub mod Locations
 pub mod Noting
-pub mod Places
 pub mod Plans
 pub mod Requests
+pub mod RingPieces
 pub mod Rings
 pub mod Seen
 pub mod SharedTable
@@ -18,5 +19,6 @@ pub mod SoundRequests
 pub mod SoundStops
 pub mod SoundWords
 pub mod TableRule
+pub mod TableSteps
 pub mod Views
 pub mod WrongSteps

@@ -1,4 +1,5 @@
--- What a driver asks of a device beside commands: a descriptor chain for a region, or another end of the ring.
+-- What a driver asks of a device beside commands: a descriptor chain for a region, or another end of the
+-- ring.
 use Rattle.std.specs.Prelude.{◌≡◌, ℕ, ◌+◌, ◌*◌, ◌/◌, ◌%◌, ◌<◌, ◌^◌, ◌==◌, nat_le, Bool, true, not, ◌&&◌}
 
 -- a request: its number, the region, and the chain's first page

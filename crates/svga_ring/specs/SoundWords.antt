@@ -1,4 +1,5 @@
--- What is sound of the words: of those that are sent and taken, and of where they stand. Each sentence has a name.
+-- What is sound of the words: of those that are sent and taken, and of where they stand. Each sentence has a
+-- name.
 use Rattle.std.specs.Prelude.{◌≡◌, ◌≢◌, ◌⊎◌, ℕ, ◌+◌, ◌<◌, ◌≤◌, ◌^◌, List, [], ◌∷◌, ◌++◌, length, take, slice_index}
 use Rattle.svga_cmd.specs.Spelling.{spelling}
 use Rattle.svga_cmd.specs.declared.command.Command.{Command}
@@ -12,31 +13,34 @@ use Rattle.svga_ring.specs.SharedTable.{capabilities_word, fence_word, fifo_dwor
 
 -- a tail of the last command's spelling, which leaves out its first word at least
 abbrev pub IsTail : List Command → List ℕ → Type 0
-IsTail cs rest = (rest ≡ []) ⊎ ((front : List Command) × (c : Command) × (cs ≡ front ++ c ∷ []) × (length rest < length (spelling c)))
+IsTail cs rest = (rest ≡ []) ⊎ ((front : List Command) × (c : Command) × (cs ≡ front ++ c ∷ [])
+    × (length rest < length (spelling c)))
 
 -- The words of the commands are sent in order, and taken command by command.
-pub record AreInOrder (way : Way) (cs : List Command) (sent taken read : List ℕ) (done next : ℕ) : Type 0 where
-  -- taken and then read is a prefix of what is sent
-  pub ahead : List ℕ
-  pub read_follows_sent : sent ≡ (taken ++ read) ++ ahead
-  -- what is taken is the spelling of so many whole commands
-  pub done_low : done ≤ length cs
-  pub taken_whole : taken ≡ spelling_all (take done cs)
-  -- the device reads only what it knows to be sent, which is sent
-  pub read_known : length taken + length read ≤ next
-  pub known_sent : next ≤ length sent
-  -- what is sent is the spelling of the commands, but for a tail of the last one, where the driver sends dword by dword
-  pub rest : List ℕ
-  pub acts_spelled : spelling_all cs ≡ sent ++ rest
-  pub rest_is_tail : IsTail cs rest
-  pub rest_by_dword : way ≡ Reserve → rest ≡ []
+pub record AreInOrder (way : Way) (cs : List Command) (sent taken read : List ℕ) (done next : ℕ) : Type 0
+  where
+    -- taken and then read is a prefix of what is sent
+    pub ahead : List ℕ
+    pub read_follows_sent : sent ≡ (taken ++ read) ++ ahead
+    -- what is taken is the spelling of so many whole commands
+    pub done_low : done ≤ length cs
+    pub taken_whole : taken ≡ spelling_all (take done cs)
+    -- the device reads only what it knows to be sent, which is sent
+    pub read_known : length taken + length read ≤ next
+    pub known_sent : next ≤ length sent
+    -- what is sent is the spelling of the commands, but for a tail of the last one, where the driver sends
+    -- dword by dword
+    pub rest : List ℕ
+    pub acts_spelled : spelling_all cs ≡ sent ++ rest
+    pub rest_is_tail : IsTail cs rest
+    pub rest_by_dword : way ≡ Reserve → rest ≡ []
 
 -- The words stand at their addresses, and one dword at least stays free.
-pub record AreInPlace (lay : Layout) (words sent pending taken : List ℕ) (stop : ℕ) : Type 0 where
+pub record AreInRing (lay : Layout) (words sent pending taken : List ℕ) (stop : ℕ) : Type 0 where
   pub next_is : slice_index words next_word ≡ word_address lay (length sent)
   pub stop_is : slice_index words stop_word ≡ word_address lay (length taken)
   pub max_is : slice_index words max_word ≡ lay.max
-  -- no word that isn't known to be taken stands before the ring's start
+  -- each word counted before the one at the ring's start is known to be taken
   pub base_known : lay.base ≤ stop
   pub known_stop : stop ≤ length taken
   pub room : length sent + length pending < stop + ring_dwords lay
@@ -63,7 +67,8 @@ abbrev pub capabilities : Way → ℕ
 capabilities Reserve = 449
 capabilities Dword = 385
 
--- MIN, CAPABILITIES and all other dwords that no step stores to are as they were opened, and the table is as long.
+-- MIN, CAPABILITIES and all other dwords that no step stores to are as they were opened, and the table is as
+-- long.
 pub record AreFixed (l : Limits) (way : Way) (lay : Layout) (words : List ℕ) : Type 0 where
   pub length_is : length words ≡ table_length l
   pub min_is : slice_index words min_word ≡ ring_start
@@ -75,8 +80,9 @@ pub record IsKnownWhole (cs : List Command) (done stop passed : ℕ) : Type 0 wh
   pub passed_low : passed ≤ done
   pub stop_is : stop ≡ length (spelling_all (take passed cs))
 
--- The last values loaded of STOP and NEXT_CMD are the addresses of what is known by them; once the seats are joined, the
--- driver knows what is taken without a load.
-pub record AreLastLoaded (seats : Seats) (driver device : Layout) (stop next last_stop last_next : ℕ) : Type 0 where
+-- The last values loaded of STOP and NEXT_CMD are the addresses of what is known by them; once the seats are
+-- joined, the driver knows what is taken without a load.
+pub record AreLastLoaded (seats : Seats) (driver device : Layout) (stop next last_stop last_next : ℕ) : Type
+    0 where
   pub stop_is : seats ≢ Joined → last_stop ≡ word_address driver stop
   pub next_is : last_next ≡ word_address device next

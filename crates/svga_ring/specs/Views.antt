@@ -20,6 +20,14 @@ pub data Seats : Type 0 where
   Apart : Seats
   Joined : Seats
 
+-- what a seat is for: both ends at first, one of them, both again, or nothing any more
+pub data Role : Type 0 where
+  both : Role
+  driver : Role
+  device : Role
+  joined : Role
+  spent : Role
+
 -- the numbers of the session that both ends step by
 pub record Terms : Type 0 where
   pub limits : Limits
@@ -58,7 +66,8 @@ pub record DriverView : Type 0 where
   pub fence_loads : Loads
   pub reply_loads : Loads
 
--- a page for the act in hand: the bytes with which it was first held, and those with which it is given back, if it is by now
+-- a page for the act in hand: the bytes with which it was first held, and those with which it is given back,
+-- if it is by now
 pub record Noted : Type 0 where
   pub first : List ℕ
   pub back : Option (List ℕ)
@@ -103,10 +112,11 @@ terms_of k = record { limits = k.limits; first = k.first; way = k.way }
 abbrev pub opening_layout : Session → Layout
 opening_layout k = record { max = k.ring; base = 0 }
 
-abbrev pub opening_driver : Session → DriverView
-opening_driver k = record {
-  terms = terms_of k;
-  layout = opening_layout k;
+-- the view of a driver that has made no step, by these numbers
+abbrev pub new_driver : Terms → Layout → DriverView
+new_driver t lay = record {
+  terms = t;
+  layout = lay;
   acts = [];
   sent = [];
   pending = [];
@@ -120,19 +130,20 @@ opening_driver k = record {
   stopped = false;
   next_stores = 0;
   stop_loads = no_loads ring_start;
-  fence_loads = no_loads (k.first - 1);
+  fence_loads = no_loads (t.first - 1);
   reply_loads = no_loads 0;
 }
 
-abbrev pub opening_device : Session → DeviceView
-opening_device k = record {
-  terms = terms_of k;
-  layout = opening_layout k;
+-- and of such a device
+abbrev pub new_device : Terms → Layout → DeviceView
+new_device t lay = record {
+  terms = t;
+  layout = lay;
   taken = [];
   read = [];
   done = 0;
   next = 0;
-  kept = opening_kept k.limits k.first;
+  kept = opening_kept t.limits t.first;
   noted = map.empty;
   stored = false;
   out = None;
@@ -144,3 +155,9 @@ opening_device k = record {
   request_loads = no_loads 0;
   config_loads = no_loads 1;
 }
+
+abbrev pub opening_driver : Session → DriverView
+opening_driver k = new_driver (terms_of k) (opening_layout k)
+
+abbrev pub opening_device : Session → DeviceView
+opening_device k = new_device (terms_of k) (opening_layout k)

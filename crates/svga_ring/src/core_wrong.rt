@@ -1,4 +1,5 @@
-//! Steps of wrong ends, each of which leaves a state that isn't sound. The function does nothing: its contract is the law.
+//! Steps of wrong ends, each of which leaves a state that isn't sound. The function does nothing: its
+//! contract is the law.
 ghost use Rattle.std.specs.Prelude.{◌≡◌, ◌≢◌, ◌+◌, ◌<◌, ◌≤◌, ℕ, slice_index};
 ghost use Rattle.svga_cmd.specs.Spelling.{Spells};
 ghost use Rattle.svga_cmd.specs.declared.command.Command.{Command};
@@ -18,21 +19,25 @@ pub fn wrong_steps_are_refused()
         → IsSoundOfWords k (after (StoreCell word) c) → ⊥ }
 
     // A word is written straight on past MAX, where its own cell holds another one: `cells`.
-    ensures past_max { (k : Session) (c : Core) (word : ℕ) → IsSoundOfWords k c → ring_dwords c.driver.layout ≤ straight_offset c.driver
+    ensures past_max { (k : Session) (c : Core) (word : ℕ) → IsSoundOfWords k c
+        → ring_dwords c.driver.layout ≤ straight_offset c.driver
         → slice_index c.words (word_cell c.driver.layout (put_count c.driver)) ≢ word
         → IsSoundOfWords k (straight_on word c) → ⊥ }
 
     // STOP is stored though no whole command was read: `taken_whole`.
-    ensures early_start { (k : Session) (c : Core) (claimed : Command) → IsSoundOfWords k c → ((command : Command) → Spells command c.device.read → ⊥)
+    ensures early_start { (k : Session) (c : Core) (claimed : Command) → IsSoundOfWords k c
+        → ((command : Command) → Spells command c.device.read → ⊥)
         → IsSoundOfWords k (after (StoreStop claimed) c) → ⊥ }
 
-    // FENCE is stored though its fence isn't the command in hand, say before the commands ahead of it are taken: `in_hand` or
-    // `register_is`.
-    ensures early_fence { (k : Session) (c : Core) (value : ℕ) → IsSoundOfWords k c → (Spells (Fence value) c.device.read → ⊥)
+    // FENCE is stored though its fence isn't the command in hand, say before the commands ahead of it are
+    // taken: `in_hand` or `register_is`.
+    ensures early_fence { (k : Session) (c : Core) (value : ℕ) → IsSoundOfWords k c
+        → (Spells (Fence value) c.device.read → ⊥)
         → IsSoundOfWords k (storing_fence value c) → ⊥ }
 
-    // Fences are taken for passed that aren't, as plain numbers say where they wrap: `seen_passed`. That none is taken for
-    // not passed that has is `loads_tell`.
-    ensures plain_fence_order { (k : Session) (c : Core) (j : ℕ) → IsSoundOfWords k c → fences_passed (commands c.driver.acts) c.device.done c.device.stored < j
+    // Fences are taken for passed that aren't, as plain numbers say where they wrap: `seen_passed`. The other
+    // error, to miss a fence that has passed, is refused by `loads_tell`.
+    ensures plain_fence_order { (k : Session) (c : Core) (j : ℕ) → IsSoundOfWords k c
+        → fences_passed (commands c.driver.acts) c.device.done c.device.stored < j
         → IsSoundOfWords k (claiming_seen j c) → ⊥ }
 {}

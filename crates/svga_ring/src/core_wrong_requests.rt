@@ -1,4 +1,4 @@
-//! Steps of wrong ends on requests and on words that are written in place, each of which leaves a state that isn't sound.
+//! Steps of wrong ends on requests and on words that are sent, each of which leaves a state that isn't sound.
 //! The function does nothing: its contract is the law.
 ghost use Rattle.std.specs.Prelude.{◌≡◌, ◌≢◌, ◌<◌, [], ℕ, length, slice_index, true};
 ghost use Rattle.svga_cmd.specs.Pages.{IsKey};
@@ -24,12 +24,14 @@ pub fn wrong_request_steps_are_refused()
         → IsSound k (after (StoreReserved 0) c) → ⊥ }
 
     // A chain is asked for while commands are under way: `chains_done`.
-    ensures ask_under_way { (k : Session) (c : Core) (id first : ℕ) → c.device.done < length (commands c.driver.acts)
+    ensures ask_under_way { (k : Session) (c : Core) (id first : ℕ)
+        → c.device.done < length (commands c.driver.acts)
         → IsSound k (after (StoreRequest id first) c) → ⊥ }
 
-    // The reply is stored while a page is still held, whatever is noted then: `noted_touched`, since its word says that it is
-    // held, and no chain is out any more that could touch it.
-    ensures early_reply { (k : Session) (c : Core) (key : PageKey) (noted : NotedPages) → IsSound k c → IsKey k.limits key
+    // The reply is stored while a page is still held, whatever is noted then: `noted_touched`, since its word
+    // says that it is held, and no chain is out any more that could touch it.
+    ensures early_reply { (k : Session) (c : Core) (key : PageKey) (noted : NotedPages) → IsSound k c
+        → IsKey k.limits key
         → c.device.wanted ≡ c.driver.request → c.device.read ≡ [] → holds c.device.noted key ≡ true
         → IsSound k (with_notes noted (after StoreReply c)) → ⊥ }
 {}

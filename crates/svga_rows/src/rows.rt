@@ -19,13 +19,15 @@ impl<T> Model for Rows<T> {
 
     ghost Value = { RowsValue T };
 
-    ghost view = { λ a. record { lists = lists_of a.starts.items a.items.items; room = length a.items.items } };
+    ghost view = { λ a.
+        record { lists = lists_of a.starts.items a.items.items; room = length a.items.items } };
 
     ghost invariant = { λ a. AreStarts a.starts.items (length a.items.items) };
 }
 
 impl<T: Copy + Drop> Rows<T> {
-    /// Empty lists, with room for so many items in all. The value fills the room until it is used, and is never seen.
+    /// Empty lists, with room for so many items in all. The value fills the room
+    /// until it is used, and is never seen.
     pub fn new(alloc: Global, lists: usize, room: usize, value: T) -> Result<Rows<T>, AllocError>
         requires { lists + 1 < 2 ^ 64 }
         ensures { IfOk result (λ rows. rows ≡ record { lists = replicate lists []; room = room }) }
@@ -35,12 +37,12 @@ impl<T: Copy + Drop> Rows<T> {
         Ok(Rows { items, starts })
     }
 
-    /// The list at a place.
-    pub fn list(&self, place: usize) -> &[T]
-        requires { place < length self.now.lists }
-        ensures { result.now ≡ list_at self.now place }
+    /// The list with this number, from 0.
+    pub fn list(&self, number: usize) -> &[T]
+        requires { number < length self.now.lists }
+        ensures { result.now ≡ list_at self.now number }
     {
-        slice_between(&self.items, &self.starts, place)
+        slice_between(&self.items, &self.starts, number)
     }
 
     /// How many items there are in all lists.
@@ -52,43 +54,47 @@ impl<T: Copy + Drop> Rows<T> {
     }
 
     /// Replaces one item of a list; all else stays.
-    pub fn set(&mut self, place: usize, index: usize, value: T)
-        requires within { place < length self.old.lists }
-        requires present { index < length (list_at self.old place) }
-        ensures lists { self.new.lists ≡ slice_set self.old.lists place (slice_set (list_at self.old place) index value) }
+    pub fn set(&mut self, number: usize, index: usize, value: T)
+        requires within { number < length self.old.lists }
+        requires present { index < length (list_at self.old number) }
+        ensures lists { self.new.lists ≡ slice_set self.old.lists number
+            (slice_set (list_at self.old number) index value) }
         ensures room { self.new.room ≡ self.old.room }
     {
-        set_at(&mut self.items, &self.starts, place, index, value);
+        set_at(&mut self.items, &self.starts, number, index, value);
     }
 
     /// Replaces the items of a list from an index on; all else stays.
-    pub fn write(&mut self, place: usize, from: usize, values: &[T])
-        requires within { place < length self.old.lists }
-        requires fits { from + length values.now ≤ length (list_at self.old place) }
-        ensures lists { self.new.lists ≡ slice_set self.old.lists place (with_values (list_at self.old place) from values.now) }
+    pub fn write(&mut self, number: usize, from: usize, values: &[T])
+        requires within { number < length self.old.lists }
+        requires fits { from + length values.now ≤ length (list_at self.old number) }
+        ensures lists { self.new.lists ≡ slice_set self.old.lists number
+            (with_values (list_at self.old number) from values.now) }
         ensures room { self.new.room ≡ self.old.room }
     {
-        write_at(&mut self.items, &self.starts, place, from, values);
+        write_at(&mut self.items, &self.starts, number, from, values);
     }
 
-    /// Replaces a list by one that has the value `count` times; all other lists stay. It moves what stands behind the list.
-    pub fn replace(&mut self, place: usize, count: usize, value: T)
-        requires within { place < length self.old.lists }
-        requires room { total_length self.old - length (list_at self.old place) + count ≤ self.old.room }
-        ensures lists { self.new.lists ≡ slice_set self.old.lists place (replicate count value) }
+    /// Replaces a list by one that has the value `count` times; all other lists stay. It
+    /// moves what stands behind the list.
+    pub fn replace(&mut self, number: usize, count: usize, value: T)
+        requires within { number < length self.old.lists }
+        requires room { total_length self.old - length (list_at self.old number) + count ≤ self.old.room }
+        ensures lists { self.new.lists ≡ slice_set self.old.lists number (replicate count value) }
         ensures room { self.new.room ≡ self.old.room }
     {
-        replace_at(&mut self.items, &mut self.starts, place, count, value);
+        replace_at(&mut self.items, &mut self.starts, number, count, value);
     }
 }
 
-fn slice_between<'a, T>(items: &'a [T], starts: &[usize], place: usize) -> &'a [T]
+fn slice_between<'a, T>(items: &'a [T], starts: &[usize], number: usize) -> &'a [T]
     requires starts { AreStarts starts.now (length items.now) }
-    requires within { place + 1 < length starts.now }
-    ensures { result.now ≡ slice_range items.now (slice_index starts.now place) (slice_index starts.now (place + 1)) }
+    requires within { number + 1 < length starts.now }
+    ensures { result.now ≡ slice_range items.now (slice_index starts.now number)
+        (slice_index starts.now (number + 1)) }
 {
-    let start = starts[place];
-    let end = starts[place + 1];
+    let start = starts[number];
+    let end = starts[number + 1];
     &items[start..end]
 }
 
@@ -100,37 +106,44 @@ fn last_start<T>(items: &[T], starts: &[usize]) -> usize
     starts[starts.len() - 1]
 }
 
-fn set_at<T: Copy>(items: &mut [T], starts: &[usize], place: usize, index: usize, value: T)
+fn set_at<T: Copy>(items: &mut [T], starts: &[usize], number: usize, index: usize, value: T)
     requires starts { AreStarts starts.now (length items.old) }
-    requires within { place + 1 < length starts.now }
-    requires present { index < slice_index starts.now (place + 1) - slice_index starts.now place }
-    ensures { lists_of starts.now items.new ≡ slice_set (lists_of starts.now items.old) place (slice_set (slice_index_or (lists_of starts.now items.old) place []) index value) }
+    requires within { number + 1 < length starts.now }
+    requires present { index < slice_index starts.now (number + 1) - slice_index starts.now number }
+    ensures { lists_of starts.now items.new
+        ≡ slice_set (lists_of starts.now items.old) number
+        (slice_set (slice_index_or (lists_of starts.now items.old) number []) index value) }
 {
-    let start = starts[place];
-    let _end = starts[place + 1];
+    let start = starts[number];
+    let _end = starts[number + 1];
     items[start + index] = value;
 }
 
-fn write_at<T: Copy>(items: &mut [T], starts: &[usize], place: usize, from: usize, values: &[T])
+fn write_at<T: Copy>(items: &mut [T], starts: &[usize], number: usize, from: usize, values: &[T])
     requires starts { AreStarts starts.now (length items.old) }
-    requires within { place + 1 < length starts.now }
-    requires fits { from + length values.now ≤ slice_index starts.now (place + 1) - slice_index starts.now place }
-    ensures { lists_of starts.now items.new ≡ slice_set (lists_of starts.now items.old) place (with_values (slice_index_or (lists_of starts.now items.old) place []) from values.now) }
+    requires within { number + 1 < length starts.now }
+    requires fits { from + length values.now
+        ≤ slice_index starts.now (number + 1) - slice_index starts.now number }
+    ensures { lists_of starts.now items.new
+        ≡ slice_set (lists_of starts.now items.old) number
+        (with_values (slice_index_or (lists_of starts.now items.old) number []) from values.now) }
 {
-    let start = starts[place];
+    let start = starts[number];
     put(items, start + from, values);
 }
 
-fn replace_at<T: Copy>(items: &mut [T], starts: &mut [usize], place: usize, count: usize, value: T)
+fn replace_at<T: Copy>(items: &mut [T], starts: &mut [usize], number: usize, count: usize, value: T)
     requires starts { AreStarts starts.old (length items.old) }
-    requires within { place + 1 < length starts.old }
-    requires room { slice_index starts.old (length starts.old - 1) - (slice_index starts.old (place + 1) - slice_index starts.old place) + count ≤ length items.old }
+    requires within { number + 1 < length starts.old }
+    requires room { slice_index starts.old (length starts.old - 1)
+        - (slice_index starts.old (number + 1) - slice_index starts.old number) + count ≤ length items.old }
     ensures starts { AreStarts starts.new (length items.old) }
-    ensures lists { lists_of starts.new items.new ≡ slice_set (lists_of starts.old items.old) place (replicate count value) }
+    ensures lists { lists_of starts.new items.new
+        ≡ slice_set (lists_of starts.old items.old) number (replicate count value) }
 {
-    let start = starts[place];
-    let end = starts[place + 1];
+    let start = starts[number];
+    let end = starts[number + 1];
     let used = starts[starts.len() - 1];
     replace_middle(items, start, end, used, count, value);
-    shift(starts, place + 1, end - start, count);
+    shift(starts, number + 1, end - start, count);
 }

@@ -6,12 +6,14 @@ use Rattle.svga_screen.specs.declared.area.Area.{Area}
 
 -- place (u, v) of a screen lies in the area
 abbrev pub is_inside : Area → ℕ → ℕ → Bool
-is_inside a u v = nat_le a.left u && nat_lt u (a.left + a.width) && (nat_le a.top v && nat_lt v (a.top + a.height))
+is_inside a u v = nat_le a.left u && nat_lt u (a.left + a.width) &&
+    (nat_le a.top v && nat_lt v (a.top + a.height))
 
 abbrev pub no_area : Area
 no_area = record { screen = 0; left = 0; top = 0; width = 0; height = 0 }
 
--- the area, in its own coordinates, of what the rectangle shares with an area of these sides whose corner is at (x, y)
+-- the area, in its own coordinates, of what the rectangle shares with an area of these sides whose corner
+-- is at (x, y)
 pub record IsClip (r : Rect) (x y : ℤ) (width height : ℕ) (a : Area) : Type 0 where
   pub screen : a.screen ≡ 0
   pub wide : a.left + a.width ≤ width

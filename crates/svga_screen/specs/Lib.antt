@@ -1,3 +1,4 @@
 pub mod Clips
+pub mod Definitions
 pub mod Kept
 pub mod ScreenSet

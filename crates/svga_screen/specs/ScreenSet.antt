@@ -9,4 +9,5 @@ pub record ScreenSet : Type 0 where
   pub screens : Screens
 
 abbrev pub coded_screen_set : Coded ScreenSet
-coded_screen_set = code_by (ℕ × Screens) (coded× coded_ℕ coded_screens) (λ s. (s.budget, s.screens)) (λ p. record { budget = p.0; screens = p.1 }) (λ _. refl)
+coded_screen_set = code_by (ℕ × Screens) (coded× coded_ℕ coded_screens) (λ s. (s.budget, s.screens))
+    (λ p. record { budget = p.0; screens = p.1 }) (λ _. refl)

@@ -4,12 +4,13 @@ ghost use Rattle.svga_screen.specs.Clips.{IsClip};
 
 use crate::area::Area;
 use svga_cmd::Rect;
+use svga_cmd::constants::MAX_SCREEN_SIDE;
 
-/// What a rectangle and an area with its left top corner at (`x`, `y`) share, in the area's own coordinates. If they
-/// share no place every number is 0. The screen is for the caller to name.
+/// What a rectangle and an area with its left top corner at (`x`, `y`) share, in the area's own
+/// coordinates. If they share no place every number is 0. The screen is for the caller to name.
 pub fn clip(rect: Rect, x: i32, y: i32, width: u32, height: u32) -> Area
-    requires width { width ≤ 8192 }
-    requires height { height ≤ 8192 }
+    requires width { width ≤ MAX_SCREEN_SIDE }
+    requires height { height ≤ MAX_SCREEN_SIDE }
     ensures { IsClip rect x y width height result }
 {
     let (left, wide) = side(rect.left, rect.right, x, width);
@@ -39,18 +40,19 @@ const NOTHING: Area = Area {
 
 /// The place so many steps behind a corner.
 pub fn place(corner: i32, steps: u32) -> i64
-    requires { steps ≤ 8192 }
+    requires { steps ≤ MAX_SCREEN_SIDE }
     ensures value { result ≡ corner +ℤ pos steps }
     ensures near { unsigned_abs result ≤ 2 ^ 32 }
 {
     i64::from(corner) + i64::from(steps)
 }
 
-/// The part of the places from `low` to below `high` among the `length` places that begin at `start`: the first
-/// of them, counted from there, and how many there are.
+/// The part of the places from `low` to below `high` among the `length` places that begin at `start`: the
+/// first of them, counted from there, and how many there are.
 fn side(low: i32, high: i32, start: i32, length: u32) -> (u32, u32)
     ensures within { result.0 + result.1 ≤ length }
-    ensures same { (k : ℕ) → k < length → (int_le low (start +ℤ pos k) && int_lt (start +ℤ pos k) high) ≡ (nat_le result.0 k && nat_lt k (result.0 + result.1)) }
+    ensures same { (k : ℕ) → k < length → (int_le low (start +ℤ pos k) && int_lt (start +ℤ pos k) high)
+        ≡ (nat_le result.0 k && nat_lt k (result.0 + result.1)) }
 {
     let from = distance(start, low, length);
     let to = distance(start, high, length);

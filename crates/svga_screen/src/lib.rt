@@ -6,11 +6,13 @@
 
 mod area;
 mod clipping;
+mod definitions;
 mod picture;
 mod screens;
 
 pub use area::Area;
 pub use clipping::{clip, place};
+pub use definitions::Definitions;
 pub use picture::has_sides;
 pub use screens::Screens;
 

@@ -15,7 +15,7 @@ use Rattle.svga_model.specs.Screens.{Screen, Screens, black_screen, definitions_
 use Rattle.svga_cmd.specs.declared.blit.Blit.{Blit}
 use Rattle.svga_model.specs.States.{Kept, State, shape_of}
 use Rattle.svga_model.specs.Steps.{shown}
-use Rattle.svga_shape.specs.Definitions.{AreScreenDefinitions}
+use Rattle.svga_screen.specs.Definitions.{AreScreenDefinitions}
 use Rattle.svga_shape.specs.ShapeSet.{ShapeSet, shape_in}
 
 -- the definitions with one more

@@ -5,6 +5,7 @@ use Rattle.std.specs.List.{list_any, range_with_len}
 use Rattle.std.specs.Prelude.{IsSome, ◌+ℤ◌, pos}
 use Rattle.svga_cmd.specs.Limits.{frame_page_count}
 use Rattle.svga_cmd.specs.declared.blit.Blit.{Blit}
+use Rattle.svga_cmd.specs.declared.constants.TheConstants.{SVGA_ID_INVALID}
 use Rattle.svga_cmd.specs.declared.fault.Fault.{Fault}
 use Rattle.svga_cmd.specs.declared.fault.Fault.TheVariants.{Unmapped, NoScreen, ScreenId, NegativeSide, BeyondRegion}
 use Rattle.svga_cmd.specs.declared.gmrfb.Gmrfb.{Gmrfb}
@@ -13,7 +14,7 @@ use Rattle.svga_model.proofs.PaintedTests.{both}
 use Rattle.svga_model.proofs.PixelsNone.{pixels-negative, pixels-no_screen, pixels-screen_id}
 use Rattle.svga_model.proofs.WorkedRules.{blit_rules}
 use Rattle.svga_model.specs.BlitFaults.{blit_tests, gmrfb_places, is_negative, is_on_unmapped, is_outside, some_byte}
-use Rattle.svga_model.specs.BlitPixels.{all_screens, blit_pixels}
+use Rattle.svga_model.specs.BlitPixels.{blit_pixels}
 use Rattle.svga_model.specs.Colours.{pixel_length}
 use Rattle.svga_model.specs.Regions.{Places, Regions, places_of}
 use Rattle.svga_model.specs.Standing.{first_standing}
@@ -30,7 +31,7 @@ module _ (definitions : ℕ → Option ScreenDef) (g : Gmrfb) (b : Blit) where
   lacks = nat_le b.screen 15 && is_none (definitions b.screen)
 
   abbrev is_wrong : Bool
-  is_wrong = nat_lt 15 b.screen && not (b.screen == all_screens)
+  is_wrong = nat_lt 15 b.screen && not (b.screen == SVGA_ID_INVALID)
 
   -- without pixels no byte passes a test
   no_byte : (test : ℤ → Bool) → blit_pixels definitions g b ≡ [] → some_byte definitions g b test ≡ false
@@ -62,9 +63,9 @@ module _ (definitions : ℕ → Option ScreenDef) (g : Gmrfb) (b : Blit) where
   -- nor has an id that no screen can have
   misnamed : is_wrong ≡ true → blit_pixels definitions g b ≡ []
   misnamed h =
-      let tests = both (nat_lt 15 b.screen) (not (b.screen == all_screens)) h in
+      let tests = both (nat_lt 15 b.screen) (not (b.screen == SVGA_ID_INVALID)) h in
       let high : nat_lt 15 b.screen ≡ true = tests.0 in
-      let other : not (b.screen == all_screens) ≡ true = tests.1 in
+      let other : not (b.screen == SVGA_ID_INVALID) ≡ true = tests.1 in
       pixels-screen_id definitions g b (grind (arith, nat_tests)) (λ e. grind (arith, nat_tests))
 
   -- nor a rectangle with a negative side

@@ -5,20 +5,21 @@ use Rattle.std.proofs.lemmas.Int.{ints}
 use Rattle.std.specs.FinMap as map
 use Rattle.std.specs.List.{list_any, range_with_len}
 use Rattle.std.specs.Prelude.{IsSome}
+use Rattle.svga_cmd.specs.declared.constants.TheConstants.{SVGA_GMR_FRAMEBUFFER}
 use Rattle.svga_cmd.specs.declared.fault.Fault.{Fault}
 use Rattle.svga_cmd.specs.declared.fault.Fault.TheVariants.{NoRegion, RegionId, Unmapped, BeyondRegion}
 use Rattle.svga_model.specs.BlitFaults.{is_on_unmapped, is_outside}
 use Rattle.svga_model.specs.PointedNumbers.{Pointed, needs_beyond, needs_unmapped, pointer_tests}
 use Rattle.svga_model.specs.RegionBytes.{holds_of, is_beyond, is_unmapped, region_tests}
-use Rattle.svga_model.specs.Regions.{Places, Regions, frame_places, frame_region, places_of, region_places}
+use Rattle.svga_model.specs.Regions.{Places, Regions, frame_places, places_of, region_places}
 use Rattle.svga_model.specs.Standing.{first_standing}
 use Rattle.svga_shape.proofs.SpanMembers.{byte_passes, number_passes, same_tests, some_byte_of, some_number}
 use Rattle.svga_shape.specs.Spans.{breaks, some_in_span}
 use Rattle.svga_shape.specs.declared.span.ByteRule.{ByteRule}
 use Rattle.svga_shape.specs.declared.span.ByteRule.TheVariants as rule
 
--- A test of whole numbers that is another one on natural numbers: some byte from a natural number on passes the one
--- where some number from there on passes the other.
+-- A test of whole numbers that is another one on natural numbers: some byte from a natural number on passes
+-- the one where some number from there on passes the other.
 module _ (on : ℤ → Bool) (test : ℕ → Bool) (same : (i : ℕ) → on (pos i) ≡ test i) (offset count : ℕ) where
   needed_there : some_in_span on (pos offset) count ≡ true → list_any test (range_with_len offset count) ≡ true
   needed_there h =
@@ -57,7 +58,7 @@ present false false true list (Some places) h high = (refl, refl)
 present false false false list (Some places) h high = (refl, refl)
 
 -- the framebuffer's id is none of a region that commands define
-framed_high : (id : ℕ) → (id == frame_region) ≡ true → nat_le id 4095 ≡ false
+framed_high : (id : ℕ) → (id == SVGA_GMR_FRAMEBUFFER) ≡ true → nat_le id 4095 ≡ false
 framed_high id e = grind (arith, nat_tests)
 
 -- the rules on bytes alone
@@ -74,7 +75,7 @@ of_region : (frame : ℕ) (regions : Regions) (id : ℕ) (unmapped beyond : Plac
     → IsSome (places_of frame regions id) → first_standing (region_tests frame regions id unmapped beyond)
     ≡ byte_rules (unmapped (region_places frame regions id)) (beyond (region_places frame regions id))
 of_region frame regions id unmapped beyond h =
-    let is = present (id == frame_region) (nat_lt 4095 id) (nat_le id 4095) (frame_places frame) (map.get regions id) h
+    let is = present (id == SVGA_GMR_FRAMEBUFFER) (nat_lt 4095 id) (nat_le id 4095) (frame_places frame) (map.get regions id) h
     (framed_high id) in
     let u = held (places_of frame regions id) unmapped h in
     let b = held (places_of frame regions id) beyond h in
@@ -92,7 +93,8 @@ has_places None None e h = absurd (cc)
 has_places None (Some n) e h = absurd (cc)
 has_places (Some places) told e h = refl
 
--- Reading numbers from a region whose length is told is refused for the bytes from there on that break a rule.
+-- Reading numbers from a region whose length is told is refused for the bytes from there on that break a
+-- rule.
 module _ (frame : ℕ) (regions : Regions) (at : Pointed) (pages : ℕ) (told : Option ℕ)
     (length_is : told ≡ option_map length (places_of frame regions at.region)) (is_told : IsSome told)
   where

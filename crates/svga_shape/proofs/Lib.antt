@@ -1,7 +1,6 @@
 pub mod ApplyLaws
 pub mod BlitLaws
 pub mod ChainLaws
-pub mod DefinitionLaws
 pub mod JudgeBlits
 pub mod JudgeReading
 pub mod JudgeRemaps

@@ -16,8 +16,8 @@ use Rattle.svga_screen.specs.declared.area.Area.{Area}
 use Rattle.svga_shape.proofs.SpanMembers.{byte_passes, number_passes, same_tests, some_byte_of, some_number}
 use Rattle.svga_shape.specs.Spans.{area_passes, pixel_passes, row_passes, some_in_span}
 
--- A row of pixels of `count` bytes, of which `wide` from `left` on are inside: where each pixel begins behind the one
--- before it, the bytes of the pixels inside are one span.
+-- A row of pixels of `count` bytes, of which `wide` from `left` on are inside: where each pixel begins
+-- behind the one before it, the bytes of the pixels inside are one span.
 module _ (test : ℤ → Bool) (inside : ℕ → Bool) (start : ℕ → ℤ) (count width left wide : ℕ)
     (some : 0 < count) (within : left + wide ≤ width)
     (steps : (u : ℕ) → start (left + u) ≡ start left +ℤ pos (u * count))
@@ -70,8 +70,8 @@ and_true : (a : Bool) → (a && true) ≡ a
 and_true true = refl
 and_true false = refl
 
--- The bytes of the blit's pixels on a screen whose corner is at (X, Y), and those of the rows of what the blit's
--- rectangle shares with it.
+-- The bytes of the blit's pixels on a screen whose corner is at (X, Y), and those of the rows of what the
+-- blit's rectangle shares with it.
 module _ (test : ℤ → Bool) (g : Gmrfb) (b : Blit) (X Y : ℤ) (width height : ℕ) (area : Area)
     (clip : IsClip b.rect X Y width height area) where
   abbrev span_passes : ℕ → Bool

@@ -86,8 +86,8 @@ step_at : (from : ℤ) (count k i : ℕ) → k < count → from +ℤ pos k ≡ p
     → (int_le from (pos i) ≡ true) × (int_le (from +ℤ pos count) (pos i) ≡ false)
 step_at from count k i l e = (grind (arith, ints), grind (arith, ints))
 
--- Where the bytes from `first` to below `end` are those of the span that the region has, one of them is on an unmapped
--- place where one of the span's is.
+-- Where the bytes from `first` to below `end` are those of the span that the region has, one of them is on
+-- an unmapped place where one of the span's is.
 module _ (places : Places) (from : ℤ) (count first end : ℕ) (within : end ≤ 4096 * length places) where
   abbrev IsBound : ℤ → ℕ → Type 0
   IsBound z n = (i : ℕ) → i < 4096 * length places → int_le z (pos i) ≡ nat_le n i

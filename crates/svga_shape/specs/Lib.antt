@@ -1,4 +1,3 @@
 pub mod Admission
-pub mod Definitions
 pub mod ShapeSet
 pub mod Spans

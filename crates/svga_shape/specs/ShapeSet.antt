@@ -9,7 +9,7 @@ use Rattle.svga_cmd.specs.declared.gmrfb.Gmrfb.{Gmrfb}
 use Rattle.svga_cmd.specs.declared.limits.Limits.{Limits}
 use Rattle.svga_model.specs.States.{Shape}
 use Rattle.svga_region.specs.RegionSet.{RegionSet, coded_set}
-use Rattle.svga_shape.specs.Definitions.{DefinitionSet, coded_definition_set}
+use Rattle.svga_screen.specs.Definitions.{DefinitionSet, coded_definition_set}
 
 -- the limits, the regions with the chain that is begun, the GMRFB, and the screens' definitions
 pub record ShapeSet : Type 0 where
@@ -20,7 +20,13 @@ pub record ShapeSet : Type 0 where
 
 -- the shape that this is
 abbrev pub shape_in : ShapeSet → Shape
-shape_in s = record { limits = s.limits; regions = s.regions.regions; gmrfb = s.gmrfb; definitions = map.get s.screens.screens }
+shape_in s = record {
+  limits = s.limits;
+  regions = s.regions.regions;
+  gmrfb = s.gmrfb;
+  definitions = map.get
+      s.screens.screens;
+}
 
 -- the parts have the limits of the whole
 pub record AreOfLimits (s : ShapeSet) : Type 0 where
@@ -38,4 +44,8 @@ opening_shape l = record {
 }
 
 abbrev pub coded_shape_set : Coded ShapeSet
-coded_shape_set = code_by (Limits × (RegionSet × (Option Gmrfb × DefinitionSet))) (coded× limits_row.the_row.coded (coded× coded_set (coded× (coded_option gmrfb_row.the_row.coded) coded_definition_set))) (λ s. (s.limits, (s.regions, (s.gmrfb, s.screens)))) (λ p. record { limits = p.0; regions = p.1.0; gmrfb = p.1.1.0; screens = p.1.1.1 }) (λ _. refl)
+coded_shape_set = code_by (Limits × (RegionSet × (Option Gmrfb × DefinitionSet)))
+    (coded× limits_row.the_row.coded (coded× coded_set
+    (coded× (coded_option gmrfb_row.the_row.coded) coded_definition_set)))
+    (λ s. (s.limits, (s.regions, (s.gmrfb, s.screens))))
+    (λ p. record { limits = p.0; regions = p.1.0; gmrfb = p.1.1.0; screens = p.1.1.1 }) (λ _. refl)

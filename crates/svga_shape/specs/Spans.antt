@@ -22,7 +22,8 @@ some_in_span test from count = list_any (λ k. test (from +ℤ pos k)) (range_wi
 
 -- a byte of the pixel for place (X, Y) passes it, where the place is one of the blit's
 abbrev pub pixel_passes : (ℤ → Bool) → Gmrfb → Blit → ℤ → ℤ → Bool
-pixel_passes test g b X Y = is_in_rect b.rect X Y && some_in_span test (blit_offset g b X Y) (pixel_length g.format)
+pixel_passes test g b X Y = is_in_rect b.rect X Y && some_in_span test (blit_offset g b X Y)
+    (pixel_length g.format)
 
 -- a byte of so many pixels from place (X, Y) to the right passes it
 unfoldable pub row_passes : (ℤ → Bool) → Gmrfb → Blit → ℤ → ℕ → ℤ → Bool

@@ -5,22 +5,19 @@ ghost use Rattle.std.specs.List.{list_any, range_with_len};
 ghost use Rattle.svga_model.specs.BlitFaults.{some_byte};
 ghost use Rattle.svga_model.specs.BlitPixels.{blit_offset};
 ghost use Rattle.svga_model.specs.Colours.{pixel_length as bytes_per_pixel};
-ghost use Rattle.svga_model.specs.Regions.{places_of, region_places};
 ghost use Rattle.svga_model.specs.Screens.{IsDefinition};
+ghost use Rattle.svga_region.specs.RegionSet.{list_of, places_in};
 ghost use Rattle.svga_shape.specs.Spans.{area_passes, breaks, screen_passes, some_in_span};
 
-use crate::definitions::Definitions;
 use crate::span::{ByteRule, span_breaks};
+use svga_cmd::constants::{MAX_SCREEN_SIDE, SVGA_ID_INVALID};
 use svga_cmd::{Blit, Gmrfb, ScreenDef};
 use svga_pixel::{pixel_length, pixel_start};
 use svga_region::Regions;
-use svga_screen::{Area, clip, place};
+use svga_screen::{Area, Definitions, clip, place};
 
-/// In place of a screen's id: virtual coordinates, and all screens.
-const SVGA_ID_INVALID: u32 = 0xFFFF_FFFF;
-
-/// Whether a byte of a pixel of the blit breaks the rule. It takes time in the rows of the blit and the places that
-/// they touch, not in its pixels.
+/// Whether a byte of a pixel of the blit breaks the rule. It takes time in the rows of the blit and the
+/// places that they touch, not in its pixels.
 pub(crate) fn blit_breaks(
     regions: &Regions,
     screens: &Definitions,
@@ -28,8 +25,9 @@ pub(crate) fn blit_breaks(
     blit: &Blit,
     rule: ByteRule,
 ) -> bool
-    requires defined { IsSome (places_of regions.now.frame regions.now.regions gmrfb.now.region) }
-    ensures { result ≡ some_byte (map.get screens.now.screens) gmrfb.now blit.now (breaks rule (region_places regions.now.frame regions.now.regions gmrfb.now.region)) }
+    requires defined { IsSome (list_of regions.now gmrfb.now.region) }
+    ensures { result ≡ some_byte (map.get screens.now.screens) gmrfb.now blit.now
+        (breaks rule (places_in regions.now gmrfb.now.region)) }
 {
     screens_break(regions, screens, gmrfb, blit, rule)
 }
@@ -42,10 +40,12 @@ fn screens_break(
     blit: &Blit,
     rule: ByteRule,
 ) -> bool
-    requires defined { IsSome (places_of regions.now.frame regions.now.regions gmrfb.now.region) }
-    ensures { result ≡ list_any (λ id. screen_passes (breaks rule (region_places regions.now.frame regions.now.regions gmrfb.now.region)) gmrfb.now blit.now id (map.get screens.now.screens id)) (range_with_len 0 16) }
+    requires defined { IsSome (list_of regions.now gmrfb.now.region) }
+    ensures { result ≡ list_any (λ id. screen_passes
+        (breaks rule (places_in regions.now gmrfb.now.region)) gmrfb.now blit.now id
+        (map.get screens.now.screens id)) (range_with_len 0 16) }
 {
-    (0..16).any(|id| match screens.get(id) {
+    (0..16).any(|id| match screens.def(id) {
         None => false,
         Some(def) => screen_breaks(regions, gmrfb, blit, id, def, rule),
     })
@@ -60,9 +60,10 @@ fn screen_breaks(
     def: &ScreenDef,
     rule: ByteRule,
 ) -> bool
-    requires defined { IsSome (places_of regions.now.frame regions.now.regions gmrfb.now.region) }
+    requires defined { IsSome (list_of regions.now gmrfb.now.region) }
     requires definition { IsDefinition id def.now }
-    ensures { result ≡ screen_passes (breaks rule (region_places regions.now.frame regions.now.regions gmrfb.now.region)) gmrfb.now blit.now id (Some def.now) }
+    ensures { result ≡ screen_passes (breaks rule (places_in regions.now gmrfb.now.region)) gmrfb.now blit.now
+        id (Some def.now) }
 {
     if blit.screen == SVGA_ID_INVALID {
         area_breaks(regions, gmrfb, blit, def, def.x, def.y, rule)
@@ -73,7 +74,8 @@ fn screen_breaks(
     }
 }
 
-/// Whether a byte of the blit's pixels on a screen breaks the rule, where the screen's corner is at (`x`, `y`).
+/// Whether a byte of the blit's pixels on a screen breaks the rule, where the screen's corner is at (`x`,
+/// `y`).
 fn area_breaks(
     regions: &Regions,
     gmrfb: &Gmrfb,
@@ -83,17 +85,19 @@ fn area_breaks(
     y: i32,
     rule: ByteRule,
 ) -> bool
-    requires defined { IsSome (places_of regions.now.frame regions.now.regions gmrfb.now.region) }
-    requires width { def.now.width ≤ 8192 }
-    requires height { def.now.height ≤ 8192 }
-    ensures { result ≡ area_passes (breaks rule (region_places regions.now.frame regions.now.regions gmrfb.now.region)) gmrfb.now blit.now x y def.now.width def.now.height }
+    requires defined { IsSome (list_of regions.now gmrfb.now.region) }
+    requires width { def.now.width ≤ MAX_SCREEN_SIDE }
+    requires height { def.now.height ≤ MAX_SCREEN_SIDE }
+    ensures { result ≡ area_passes (breaks rule (places_in regions.now gmrfb.now.region)) gmrfb.now blit.now x
+        y def.now.width def.now.height }
 {
     let area = clip(blit.rect, x, y, def.width, def.height);
     let left = place(x, area.left);
     rows_break(regions, gmrfb, blit, left, y, area, rule)
 }
 
-/// The same for the rows of an area, of which each begins at the place `left`: the bytes of its pixels are one span.
+/// The same for the rows of an area, of which each begins at the place `left`: the bytes of its pixels are
+/// one span.
 fn rows_break(
     regions: &Regions,
     gmrfb: &Gmrfb,
@@ -103,11 +107,13 @@ fn rows_break(
     area: Area,
     rule: ByteRule,
 ) -> bool
-    requires defined { IsSome (places_of regions.now.frame regions.now.regions gmrfb.now.region) }
+    requires defined { IsSome (list_of regions.now gmrfb.now.region) }
     requires left { unsigned_abs left ≤ 2 ^ 32 }
-    requires width { area.width ≤ 8192 }
-    requires height { area.top + area.height ≤ 8192 }
-    ensures { result ≡ list_any (λ v. some_in_span (breaks rule (region_places regions.now.frame regions.now.regions gmrfb.now.region)) (blit_offset gmrfb.now blit.now left (y +ℤ pos v)) (area.width * bytes_per_pixel gmrfb.now.format)) (range_with_len area.top area.height) }
+    requires width { area.width ≤ MAX_SCREEN_SIDE }
+    requires height { area.top + area.height ≤ MAX_SCREEN_SIDE }
+    ensures { result ≡ list_any (λ v. some_in_span (breaks rule (places_in regions.now gmrfb.now.region))
+        (blit_offset gmrfb.now blit.now left (y +ℤ pos v)) (area.width * bytes_per_pixel gmrfb.now.format))
+        (range_with_len area.top area.height) }
 {
     let count = u64::from(area.width) * pixel_length(gmrfb.format) as u64;
     (area.top..area.top + area.height).any(|row| {

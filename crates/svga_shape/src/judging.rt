@@ -7,31 +7,31 @@ ghost use Rattle.svga_cmd.specs.declared.fault.Fault.TheVariants as fault;
 ghost use Rattle.svga_cmd.specs.Lent.{entries_of};
 ghost use Rattle.svga_cmd.specs.WellFormed.{HasEntries};
 ghost use Rattle.svga_model.specs.BlitFaults.{blit_tests, is_negative as has_negative_side};
-ghost use Rattle.svga_model.specs.BlitPixels.{all_screens};
 ghost use Rattle.svga_model.specs.Faults.{gmrfb_tests, pointed_tests};
 ghost use Rattle.svga_model.specs.PointedNumbers.{pointed, pointed_by, pointer_tests};
-ghost use Rattle.svga_model.specs.Regions.{named_pages, places_of, region_places, remap_tests};
+ghost use Rattle.svga_model.specs.Regions.{named_pages, remap_tests};
 ghost use Rattle.svga_model.specs.Standing.{first_standing, least_standing};
 ghost use Rattle.svga_model.specs.States.{Shape};
 ghost use Rattle.svga_shape.specs.Admission.{region_of};
+ghost use Rattle.svga_region.specs.RegionSet.{list_of, places_in};
 ghost use Rattle.svga_shape.specs.Spans.{breaks, some_in_span};
 
 use crate::blits::blit_breaks;
-use crate::definitions::Definitions;
 use crate::lesser::lesser;
 use crate::span::{ByteRule, span_breaks};
 use crate::touch::Touch;
+use svga_cmd::constants::{
+    MAX_REGION_ID, MAX_REMAP_PAGES, MAX_SCREEN_ID, SVGA_GMR_FRAMEBUFFER, SVGA_ID_INVALID,
+};
 use svga_cmd::{Blit, EntriesRef, Fault, Gmrfb, GuestPtr, Rect};
 use svga_region::Regions;
-
-/// In place of a screen's id: virtual coordinates, and all screens.
-const SVGA_ID_INVALID: u32 = 0xFFFF_FFFF;
+use svga_screen::Definitions;
 
 /// Whether a GMRFB may lie in this region. It need not be defined.
 pub(crate) fn may_name(region: u32) -> Result<(), Fault>
     ensures { result_err result ≡ first_standing (gmrfb_tests region) }
 {
-    if region > 4095 && region < 0xFFFF_FFFE {
+    if region > MAX_REGION_ID && region < SVGA_GMR_FRAMEBUFFER {
         return Err(Fault::RegionId);
     }
     Ok(())
@@ -44,7 +44,9 @@ pub(crate) fn may_blit(
     gmrfb: Option<Gmrfb>,
     blit: &Blit,
 ) -> Result<(), Fault>
-    ensures { (s : Shape) → s.regions ≡ regions.now.regions → frame_page_count s.limits ≡ regions.now.frame → s.gmrfb ≡ gmrfb → s.definitions ≡ map.get screens.now.screens → result_err result ≡ first_standing (blit_tests s blit.now) }
+    ensures { (s : Shape) → s.regions ≡ regions.now.regions → frame_page_count s.limits ≡ regions.now.frame
+        → s.gmrfb ≡ gmrfb → s.definitions ≡ map.get screens.now.screens → result_err result
+        ≡ first_standing (blit_tests s blit.now) }
 {
     let Some(gmrfb) = gmrfb else {
         return Err(Fault::NoGmrfb);
@@ -72,16 +74,16 @@ pub(crate) fn may_blit(
 
 /// Whether the id is a screen's and no such screen is defined.
 fn lacks_screen(screens: &Definitions, id: u32) -> bool
-    ensures { result ≡ (nat_le id 15 && is_none (map.get screens.now.screens id)) }
+    ensures { result ≡ (nat_le id MAX_SCREEN_ID && is_none (map.get screens.now.screens id)) }
 {
-    id <= 15 && screens.get(id).is_none()
+    id <= MAX_SCREEN_ID && screens.def(id).is_none()
 }
 
 /// Whether the id is no screen's, and doesn't stand for all of them.
 fn is_no_screen_id(id: u32) -> bool
-    ensures { result ≡ (nat_lt 15 id && not (id == all_screens)) }
+    ensures { result ≡ (nat_lt MAX_SCREEN_ID id && not (id == SVGA_ID_INVALID)) }
 {
-    id > 15 && id != SVGA_ID_INVALID
+    id > MAX_SCREEN_ID && id != SVGA_ID_INVALID
 }
 
 /// Whether a side of the rectangle is negative.
@@ -99,10 +101,14 @@ pub(crate) fn may_remap(
     pages: u32,
     entries: EntriesRef<'_>,
 ) -> Result<Touch, Fault>
-    requires few { pages ≤ 65536 }
+    requires few { pages ≤ MAX_REMAP_PAGES }
     requires fits { HasEntries (entries_of entries) pages }
-    ensures fault { result_err result ≡ least_standing (remap_tests regions.now.guest regions.now.regions region offset pages (named_pages (entries_of entries.entry) pages) ++ pointed_tests regions.now.frame regions.now.regions (pointed (entries_of entries.entry)) pages) }
-    ensures touch { IfOk result (λ touch. region_of touch ≡ option_map (λ at. at.region) (pointed (entries_of entries.entry))) }
+    ensures fault { result_err result ≡ least_standing
+        (remap_tests regions.now.guest regions.now.regions region offset pages
+        (named_pages (entries_of entries.entry) pages)
+        ++ pointed_tests regions.now.frame regions.now.regions (pointed (entries_of entries.entry)) pages) }
+    ensures touch { IfOk result (λ touch. region_of touch
+        ≡ option_map (λ at. at.region) (pointed (entries_of entries.entry))) }
 {
     match entries {
         EntriesRef::ViaGmr32(pointer) => may_remap_via(regions, region, offset, pages, pointer, 1),
@@ -114,7 +120,8 @@ pub(crate) fn may_remap(
     }
 }
 
-/// What a remap is refused with whose numbers have so many words and stand from the pointer on, but for these numbers.
+/// What a remap is refused with whose numbers have so many words and stand from the pointer on, but for
+/// these numbers.
 fn may_remap_via(
     regions: &Regions,
     region: u32,
@@ -123,9 +130,11 @@ fn may_remap_via(
     pointer: GuestPtr,
     words: u32,
 ) -> Result<Touch, Fault>
-    requires few { pages ≤ 65536 }
+    requires few { pages ≤ MAX_REMAP_PAGES }
     requires words { words ≤ 2 }
-    ensures fault { result_err result ≡ least_standing (remap_tests regions.now.guest regions.now.regions region offset pages [] ++ pointer_tests regions.now.frame regions.now.regions (pointed_by words pointer) pages) }
+    ensures fault { result_err result ≡ least_standing
+        (remap_tests regions.now.guest regions.now.regions region offset pages []
+        ++ pointer_tests regions.now.frame regions.now.regions (pointed_by words pointer) pages) }
     ensures touch { IfOk result (λ touch. region_of touch ≡ Some pointer.region) }
 {
     let range = regions.may_remap_range(region, offset, pages);
@@ -135,9 +144,10 @@ fn may_remap_via(
 
 /// What reading so many numbers from the pointer on is refused with.
 fn may_read(regions: &Regions, pointer: GuestPtr, words: u32, pages: u32) -> Result<(), Fault>
-    requires few { pages ≤ 65536 }
+    requires few { pages ≤ MAX_REMAP_PAGES }
     requires words { words ≤ 2 }
-    ensures { result_err result ≡ first_standing (pointer_tests regions.now.frame regions.now.regions (pointed_by words pointer) pages) }
+    ensures { result_err result ≡ first_standing (pointer_tests regions.now.frame regions.now.regions
+        (pointed_by words pointer) pages) }
 {
     if regions.length(pointer.region).is_none() {
         return no_region(pointer.region);
@@ -159,10 +169,11 @@ fn numbers_break(
     pages: u32,
     rule: ByteRule,
 ) -> bool
-    requires few { pages ≤ 65536 }
+    requires few { pages ≤ MAX_REMAP_PAGES }
     requires words { words ≤ 2 }
-    requires defined { IsSome (places_of regions.now.frame regions.now.regions pointer.region) }
-    ensures { result ≡ some_in_span (breaks rule (region_places regions.now.frame regions.now.regions pointer.region)) (pos pointer.offset) (4 * words * pages) }
+    requires defined { IsSome (list_of regions.now pointer.region) }
+    ensures { result ≡ some_in_span (breaks rule (places_in regions.now pointer.region)) (pos pointer.offset)
+        (4 * words * pages) }
 {
     let from = i128::from(pointer.offset);
     let bytes = u64::from(4 * words * pages);
@@ -171,9 +182,9 @@ fn numbers_break(
 
 /// Why there is no region with this id.
 fn no_region(id: u32) -> Result<(), Fault>
-    ensures { result_err result ≡ Some (if nat_lt 4095 id then fault.RegionId else fault.NoRegion) }
+    ensures { result_err result ≡ Some (if nat_lt MAX_REGION_ID id then fault.RegionId else fault.NoRegion) }
 {
-    if id > 4095 {
+    if id > MAX_REGION_ID {
         Err(Fault::RegionId)
     } else {
         Err(Fault::NoRegion)

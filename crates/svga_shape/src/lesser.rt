@@ -8,7 +8,8 @@ use svga_cmd::Fault;
 
 /// Of two refusals the one with the lesser number; the first one where the two are one.
 pub(crate) fn lesser(a: Result<(), Fault>, b: Result<(), Fault>) -> Result<(), Fault>
-    ensures { (xs ys : List (Bool × Fault)) → result_err a ≡ least_standing xs → result_err b ≡ least_standing ys → result_err result ≡ least_standing (xs ++ ys) }
+    ensures { (xs ys : List (Bool × Fault)) → result_err a ≡ least_standing xs → result_err b
+        ≡ least_standing ys → result_err result ≡ least_standing (xs ++ ys) }
 {
     match (a, b) {
         (Err(f), Err(g)) => Err(if f.number() <= g.number() { f } else { g }),

@@ -3,9 +3,11 @@ ghost use Rattle.std.specs.Prelude.{◌≡◌, ℕ, ◌-◌, ◌*◌, ◌<◌, �
 ghost use Rattle.std.specs.List.{list_any, range_with_len};
 ghost use Rattle.svga_model.specs.BlitFaults.{is_on_unmapped, is_outside};
 ghost use Rattle.svga_model.specs.RegionBytes.{page_of_byte};
-ghost use Rattle.svga_model.specs.Regions.{Places, places_of, region_places};
+ghost use Rattle.svga_model.specs.Regions.{Places};
+ghost use Rattle.svga_region.specs.RegionSet.{list_of, places_in};
 ghost use Rattle.svga_shape.specs.Spans.{breaks, some_in_span};
 
+use svga_cmd::constants::PAGE_SIZE;
 use svga_region::Regions;
 
 /// A rule on the bytes of a region.
@@ -25,9 +27,9 @@ pub(crate) fn span_breaks(
     from: i128,
     count: u64,
 ) -> bool
-    requires defined { IsSome (places_of regions.now.frame regions.now.regions id) }
+    requires defined { IsSome (list_of regions.now id) }
     requires near { unsigned_abs from ≤ 2 ^ 80 }
-    ensures { result ≡ some_in_span (breaks rule (region_places regions.now.frame regions.now.regions id)) from count }
+    ensures { result ≡ some_in_span (breaks rule (places_in regions.now id)) from count }
 {
     let Some(places) = regions.length(id) else {
         return false;
@@ -48,7 +50,7 @@ fn lies_outside(places: u32, from: i128, count: u64) -> bool
     } else if from < 0 {
         true
     } else {
-        end_of(from, count) > 4096 * i128::from(places)
+        end_of(from, count) > PAGE_SIZE as i128 * i128::from(places)
     }
 }
 
@@ -63,10 +65,10 @@ fn end_of(from: i128, count: u64) -> i128
 
 /// Whether one of the bytes lies on an unmapped place of the region.
 fn lies_on_unmapped(regions: &Regions, id: u32, places: u32, from: i128, count: u64) -> bool
-    requires defined { IsSome (places_of regions.now.frame regions.now.regions id) }
-    requires places { places ≡ length (region_places regions.now.frame regions.now.regions id) }
+    requires defined { IsSome (list_of regions.now id) }
+    requires places { places ≡ length (places_in regions.now id) }
     requires near { unsigned_abs from ≤ 2 ^ 80 }
-    ensures { result ≡ some_in_span (is_on_unmapped (region_places regions.now.frame regions.now.regions id)) from count }
+    ensures { result ≡ some_in_span (is_on_unmapped (places_in regions.now id)) from count }
 {
     let first = nearest(from, places);
     let end = nearest(end_of(from, count), places);
@@ -75,10 +77,10 @@ fn lies_on_unmapped(regions: &Regions, id: u32, places: u32, from: i128, count: 
 
 /// The number from 0 to the count of a region's bytes that is nearest to this one.
 fn nearest(byte: i128, places: u32) -> u64
-    ensures within { result ≤ 4096 * places }
-    ensures same { (i : ℕ) → i < 4096 * places → int_le byte (pos i) ≡ nat_le result i }
+    ensures within { result ≤ PAGE_SIZE * places }
+    ensures same { (i : ℕ) → i < PAGE_SIZE * places → int_le byte (pos i) ≡ nat_le result i }
 {
-    let bytes = 4096 * u64::from(places);
+    let bytes = PAGE_SIZE as u64 * u64::from(places);
     if byte <= 0 {
         0
     } else {
@@ -88,24 +90,26 @@ fn nearest(byte: i128, places: u32) -> u64
 
 /// Whether one of the bytes from `first` to below `end` lies on an unmapped place.
 fn touches_unmapped(regions: &Regions, id: u32, places: u32, first: u64, end: u64) -> bool
-    requires defined { IsSome (places_of regions.now.frame regions.now.regions id) }
-    requires places { places ≡ length (region_places regions.now.frame regions.now.regions id) }
-    requires within { end ≤ 4096 * places }
-    ensures { result ≡ list_any (λ i. is_none (page_of_byte (region_places regions.now.frame regions.now.regions id) i)) (range_with_len first (end - first)) }
+    requires defined { IsSome (list_of regions.now id) }
+    requires places { places ≡ length (places_in regions.now id) }
+    requires within { end ≤ PAGE_SIZE * places }
+    ensures { result ≡ list_any (λ i. is_none (page_of_byte (places_in regions.now id) i))
+        (range_with_len first (end - first)) }
 {
     if first >= end {
         return false;
     }
-    let from = (first / 4096) as u32;
-    let to = ((end - 1) / 4096) as u32 + 1;
+    let from = (first / PAGE_SIZE as u64) as u32;
+    let to = ((end - 1) / PAGE_SIZE as u64) as u32 + 1;
     has_unmapped(regions, id, from, to)
 }
 
 /// Whether one of the places from `from` to below `to` is unmapped.
 fn has_unmapped(regions: &Regions, id: u32, from: u32, to: u32) -> bool
-    requires defined { IsSome (places_of regions.now.frame regions.now.regions id) }
-    requires within { to ≤ length (region_places regions.now.frame regions.now.regions id) }
-    ensures { result ≡ list_any (λ k. is_none (slice_index_or (region_places regions.now.frame regions.now.regions id) k None)) (range_with_len from (to - from)) }
+    requires defined { IsSome (list_of regions.now id) }
+    requires within { to ≤ length (places_in regions.now id) }
+    ensures { result ≡ list_any (λ k. is_none (slice_index_or (places_in regions.now id) k None))
+        (range_with_len from (to - from)) }
 {
     (from..to).any(|k| regions.place(id, k).is_none())
 }

@@ -1,4 +1,5 @@
-//! Admission by worked cases: each rule with a neighbour that it doesn't refuse, and the least number where several stand.
+//! Admission by worked cases: each rule with a neighbour that it doesn't refuse, and the least number where
+//! several stand.
 ghost use Rattle.std.specs.Prelude.{◌≤◌, ◌≢◌};
 ghost use Rattle.svga_cmd.specs.Lent.{command_of, entries_of};
 ghost use Rattle.svga_cmd.specs.WellFormed.{HasEntries, IsWellFormed};
@@ -85,8 +86,9 @@ fn remap<'a>(region: u32, offset: u32, pages: u32, entries: EntriesRef<'a>) -> C
     }
 }
 
-/// Region 1 has pages 4 and 5 and an unmapped place, region 2 has one unmapped place, region 3 is gone. Screen 0 is 4 by
-/// 4 pixels at (0, 0), screen 1 is 2 by 4 at (8, 0). The GMRFB is region 1 from byte 0 on, in rows of 64 bytes.
+/// Region 1 has pages 4 and 5 and an unmapped place, region 2 has one unmapped place, region 3 is gone.
+/// Screen 0 is 4 by 4 pixels at (0, 0), screen 1 is 2 by 4 at (8, 0). The GMRFB is region 1 from byte 0 on,
+/// in rows of 64 bytes.
 fn prepared(alloc: Global) -> Result<Shape, AllocError> {
     let mut shape = Shape::new(alloc, LIMITS)?;
     define(&mut shape, 1, 3);

@@ -34,19 +34,24 @@ backing_fields None = []
 backing_fields (Some b) = decimal b.region ∷ decimal b.offset ∷ decimal b.pitch ∷ decimal b.clones ∷ []
 
 abbrev pub blit_fields : Blit → List (List ℕ)
-blit_fields b = signed_decimal b.point.x ∷ signed_decimal b.point.y ∷ signed_decimal b.rect.left ∷ signed_decimal b.rect.top ∷ signed_decimal b.rect.right ∷ signed_decimal b.rect.bottom ∷ decimal b.screen ∷ []
+blit_fields b = signed_decimal b.point.x ∷ signed_decimal b.point.y ∷ signed_decimal b.rect.left
+    ∷ signed_decimal b.rect.top ∷ signed_decimal b.rect.right ∷ signed_decimal b.rect.bottom
+    ∷ decimal b.screen ∷ []
 
 -- the fields of a command in the order of its words, its id left out
 abbrev pub command_fields : Command → List (List ℕ)
 command_fields (Update x y width height) = decimal x ∷ decimal y ∷ decimal width ∷ decimal height ∷ []
 command_fields (Fence value) = decimal value ∷ []
-command_fields (DefineScreen d) = decimal (struct_size d.backing) ∷ decimal d.id ∷ decimal d.flags ∷ decimal d.width ∷ decimal d.height ∷ signed_decimal d.x ∷ signed_decimal d.y ∷ backing_fields d.backing
+command_fields (DefineScreen d) = decimal (struct_size d.backing) ∷ decimal d.id ∷ decimal d.flags
+    ∷ decimal d.width ∷ decimal d.height ∷ signed_decimal d.x ∷ signed_decimal d.y ∷ backing_fields d.backing
 command_fields (DestroyScreen id) = decimal id ∷ []
-command_fields (DefineGmrfb g) = decimal g.region ∷ decimal g.offset ∷ decimal g.pitch ∷ format_name g.format ∷ []
+command_fields (DefineGmrfb g) = decimal g.region ∷ decimal g.offset ∷ decimal g.pitch
+    ∷ format_name g.format ∷ []
 command_fields (BlitToScreen b) = blit_fields b
 command_fields (BlitToGmrfb b) = blit_fields b
 command_fields (DefineGmr2 region pages) = decimal region ∷ decimal pages ∷ []
-command_fields (RemapGmr2 region offset pages entries) = decimal region ∷ decimal offset ∷ decimal pages ∷ kind_name entries ∷ map decimal (entry_numbers entries)
+command_fields (RemapGmr2 region offset pages entries) = decimal region ∷ decimal offset ∷ decimal pages
+    ∷ kind_name entries ∷ map decimal (entry_numbers entries)
 
 -- the line of a command whose first word has this number
 abbrev pub command_line : ℕ → Command → List ℕ

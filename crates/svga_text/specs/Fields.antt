@@ -2,7 +2,7 @@
 use Rattle.std.specs.Prelude.{ℕ, List}
 use Rattle.std.specs.Fmt.{decimal, signed_decimal}
 use Rattle.svga_text.specs.Hexadecimal.{hex_byte}
-use Rattle.svga_text.specs.Pages.{key_text}
+use Rattle.svga_text.specs.Keys.{key_text}
 use Rattle.svga_text.specs.declared.field.Field.{Field}
 use Rattle.svga_text.specs.declared.field.Field.TheVariants.{Unsigned, Signed, Name, Byte, Key}
 

@@ -1,6 +1,7 @@
 pub mod CommandLines
 pub mod Fields
 pub mod Hexadecimal
+pub mod Keys
 pub mod Lines
 pub mod Names
 pub mod Pages

@@ -1,5 +1,9 @@
 -- The names that stand in texts.
 use Rattle.std.specs.Prelude.{ℕ, List, codes}
+use Rattle.svga_cmd.specs.declared.capture_cause.CaptureCause.{CaptureCause}
+use Rattle.svga_cmd.specs.declared.capture_cause.CaptureCause.TheVariants as capture
+use Rattle.svga_cmd.specs.declared.cause.Cause.{Cause}
+use Rattle.svga_cmd.specs.declared.cause.Cause.TheVariants as cause
 use Rattle.svga_cmd.specs.declared.command.Command.{Command}
 use Rattle.svga_cmd.specs.declared.command.Command.TheVariants.{Update, Fence, DefineScreen, DestroyScreen, DefineGmrfb, BlitToScreen, BlitToGmrfb, DefineGmr2, RemapGmr2}
 use Rattle.svga_cmd.specs.declared.fault.Fault.{Fault}
@@ -8,9 +12,6 @@ use Rattle.svga_cmd.specs.declared.format.Format.{Format}
 use Rattle.svga_cmd.specs.declared.format.Format.TheVariants.{Bgrx32, Bgr24, Rgb565, Rgb555}
 use Rattle.svga_cmd.specs.declared.remap.RemapData.{RemapData}
 use Rattle.svga_cmd.specs.declared.remap.RemapData.TheVariants.{Ppn32, Ppn64, SinglePpn32, SinglePpn64, ViaGmr32, ViaGmr64}
-use Rattle.svga_model.specs.CaptureFields as flaw
-use Rattle.svga_model.specs.CaptureFields.{Flaw}
-use Rattle.svga_model.specs.RefusedWords.{Refusal, Unsupported, ThreeD, Escape, Unknown, BadSize, BadFlags, BadFormat, TooManyPages}
 
 -- the name of a command
 abbrev pub command_name : Command → List ℕ
@@ -41,15 +42,15 @@ kind_name (ViaGmr32 pointer) = codes "via32"
 kind_name (ViaGmr64 pointer) = codes "via64"
 
 -- why a word is refused
-abbrev pub refusal_name : Refusal → List ℕ
-refusal_name Unsupported = codes "Unsupported"
-refusal_name ThreeD = codes "ThreeD"
-refusal_name Escape = codes "Escape"
-refusal_name Unknown = codes "Unknown"
-refusal_name BadSize = codes "BadSize"
-refusal_name BadFlags = codes "BadFlags"
-refusal_name BadFormat = codes "BadFormat"
-refusal_name TooManyPages = codes "TooManyPages"
+abbrev pub cause_name : Cause → List ℕ
+cause_name cause.Unsupported = codes "Unsupported"
+cause_name cause.ThreeD = codes "ThreeD"
+cause_name cause.Escape = codes "Escape"
+cause_name cause.Unknown = codes "Unknown"
+cause_name cause.BadSize = codes "BadSize"
+cause_name cause.BadFlags = codes "BadFlags"
+cause_name cause.BadFormat = codes "BadFormat"
+cause_name cause.TooManyPages = codes "TooManyPages"
 
 -- why an act isn't admissible
 abbrev pub fault_name : Fault → List ℕ
@@ -70,10 +71,10 @@ fault_name fault.ChainEnd = codes "ChainEnd"
 fault_name fault.ChainLimit = codes "ChainLimit"
 
 -- why bytes are no capture
-abbrev pub flaw_name : Flaw → List ℕ
-flaw_name flaw.Magic = codes "Magic"
-flaw_name flaw.Version = codes "Version"
-flaw_name flaw.Number = codes "Number"
-flaw_name flaw.Order = codes "Order"
-flaw_name flaw.Short = codes "Short"
-flaw_name flaw.Long = codes "Long"
+abbrev pub capture_cause_name : CaptureCause → List ℕ
+capture_cause_name capture.Magic = codes "Magic"
+capture_cause_name capture.Version = codes "Version"
+capture_cause_name capture.Number = codes "Number"
+capture_cause_name capture.Order = codes "Order"
+capture_cause_name capture.Short = codes "Short"
+capture_cause_name capture.Long = codes "Long"

@@ -19,12 +19,14 @@ same_row = pointwise (◌==◌)
 
 -- equal rows, the first of which has this number
 abbrev pub rows_line : ℕ → Run (List ℕ) → List ℕ
-rows_line first (count, row) = line (codes "rows") (decimal first ∷ decimal count ∷ map_list pixels_text (largest_runs (◌==◌) row))
+rows_line first (count, row) = line (codes "rows")
+    (decimal first ∷ decimal count ∷ map_list pixels_text (largest_runs (◌==◌) row))
 
 -- a screen: its definition, and its picture from the top
 abbrev pub screen_text : Screen → List ℕ
 screen_text s =
-    line (codes "screen") (decimal s.def.id ∷ decimal s.def.width ∷ decimal s.def.height ∷ signed_decimal s.def.x ∷ signed_decimal s.def.y ∷ [])
+    line (codes "screen") (decimal s.def.id ∷ decimal s.def.width ∷ decimal s.def.height
+    ∷ signed_decimal s.def.x ∷ signed_decimal s.def.y ∷ [])
     ++ runs_text rows_line 0 (largest_runs same_row s.rows)
 
 abbrev pub some_screen_text : Option Screen → List ℕ

@@ -12,6 +12,7 @@ use crate::entry::{entry_at, entry_count};
 use crate::field::Field::{Name, Signed, Unsigned};
 use crate::name::{name_of_format, name_of_kind};
 use crate::render::Render;
+use svga_cmd::constants::{BACKED_SCREEN_SIZE, SCREEN_SIZE};
 use svga_cmd::{Blit, EntriesRef, Gmrfb, ScreenDef};
 use svga_io::{Sink, WriteFault};
 
@@ -25,7 +26,8 @@ impl Render {
         width: u32,
         height: u32,
     ) -> Result<(), WriteFault>
-        ensures { Writes K.held K.faults sink.old sink.new (command_line word (command.Update x y width height)) result }
+        ensures { Writes K.held K.faults sink.old sink.new
+            (command_line word (command.Update x y width height)) result }
     {
         self.write(
             sink,
@@ -62,7 +64,8 @@ impl Render {
         word: u32,
         id: u32,
     ) -> Result<(), WriteFault>
-        ensures { Writes K.held K.faults sink.old sink.new (command_line word (command.DestroyScreen id)) result }
+        ensures { Writes K.held K.faults sink.old sink.new
+            (command_line word (command.DestroyScreen id)) result }
     {
         self.write(
             sink,
@@ -78,7 +81,8 @@ impl Render {
         region: u32,
         pages: u32,
     ) -> Result<(), WriteFault>
-        ensures { Writes K.held K.faults sink.old sink.new (command_line word (command.DefineGmr2 region pages)) result }
+        ensures { Writes K.held K.faults sink.old sink.new
+            (command_line word (command.DefineGmr2 region pages)) result }
     {
         self.write(
             sink,
@@ -98,7 +102,8 @@ impl Render {
         word: u32,
         def: &ScreenDef,
     ) -> Result<(), WriteFault>
-        ensures { Writes K.held K.faults sink.old sink.new (command_line word (command.DefineScreen def.now)) result }
+        ensures { Writes K.held K.faults sink.old sink.new
+            (command_line word (command.DefineScreen def.now)) result }
     {
         match def.backing {
             None => self.write(
@@ -107,7 +112,7 @@ impl Render {
                 &[
                     Unsigned(word),
                     Name("DEFINE_SCREEN"),
-                    Unsigned(28),
+                    Unsigned(SCREEN_SIZE),
                     Unsigned(def.id),
                     Unsigned(def.flags),
                     Unsigned(def.width),
@@ -122,7 +127,7 @@ impl Render {
                 &[
                     Unsigned(word),
                     Name("DEFINE_SCREEN"),
-                    Unsigned(44),
+                    Unsigned(BACKED_SCREEN_SIZE),
                     Unsigned(def.id),
                     Unsigned(def.flags),
                     Unsigned(def.width),
@@ -144,7 +149,8 @@ impl Render {
         word: u32,
         gmrfb: &Gmrfb,
     ) -> Result<(), WriteFault>
-        ensures { Writes K.held K.faults sink.old sink.new (command_line word (command.DefineGmrfb gmrfb.now)) result }
+        ensures { Writes K.held K.faults sink.old sink.new
+            (command_line word (command.DefineGmrfb gmrfb.now)) result }
     {
         self.write(
             sink,
@@ -166,7 +172,8 @@ impl Render {
         word: u32,
         blit: &Blit,
     ) -> Result<(), WriteFault>
-        ensures { Writes K.held K.faults sink.old sink.new (command_line word (command.BlitToScreen blit.now)) result }
+        ensures { Writes K.held K.faults sink.old sink.new
+            (command_line word (command.BlitToScreen blit.now)) result }
     {
         self.blit(sink, word, "BLIT_GMRFB_TO_SCREEN", blit)
     }
@@ -177,7 +184,8 @@ impl Render {
         word: u32,
         blit: &Blit,
     ) -> Result<(), WriteFault>
-        ensures { Writes K.held K.faults sink.old sink.new (command_line word (command.BlitToGmrfb blit.now)) result }
+        ensures { Writes K.held K.faults sink.old sink.new
+            (command_line word (command.BlitToGmrfb blit.now)) result }
     {
         self.blit(sink, word, "BLIT_SCREEN_TO_GMRFB", blit)
     }
@@ -189,7 +197,8 @@ impl Render {
         name: &'static str,
         blit: &Blit,
     ) -> Result<(), WriteFault>
-        ensures { Writes K.held K.faults sink.old sink.new (line (codes "at") (decimal word ∷ name.entry.now ∷ blit_fields blit.now)) result }
+        ensures { Writes K.held K.faults sink.old sink.new
+            (line (codes "at") (decimal word ∷ name.entry.now ∷ blit_fields blit.now)) result }
     {
         self.write(
             sink,
@@ -218,7 +227,8 @@ impl Render {
         entries: &EntriesRef<'_>,
     ) -> Result<(), WriteFault>
         requires { HasEntries (entries_of entries.now) pages }
-        ensures { Writes K.held K.faults sink.old sink.new (command_line word (command.RemapGmr2 region offset pages (entries_of entries.now))) result }
+        ensures { Writes K.held K.faults sink.old sink.new
+            (command_line word (command.RemapGmr2 region offset pages (entries_of entries.now))) result }
     {
         self.begin(
             sink,

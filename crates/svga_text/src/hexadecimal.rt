@@ -2,6 +2,8 @@
 ghost use Rattle.std.specs.Prelude.{◌≡◌, ◌<◌};
 ghost use Rattle.svga_text.specs.Hexadecimal.{hex_byte, hex_colour, hex_digit};
 
+use svga_cmd::constants::COLOURS;
+
 /// The digit of a number below 16.
 fn digit_of(n: u8) -> u8
     requires { n < 16 }
@@ -19,7 +21,7 @@ pub fn digits_of_byte(byte: u8) -> [u8; 2]
 
 /// The six digits of a colour.
 pub fn digits_of_colour(colour: u32) -> [u8; 6]
-    requires { colour < 16777216 }
+    requires { colour < COLOURS }
     ensures { result ≡ hex_colour colour }
 {
     let [r1, r0] = digits_of_byte((colour / 65536) as u8);

@@ -1,4 +1,5 @@
 //! The lines of a text that aren't a command's.
+use svga_cmd::PageKey;
 
 /// A line, with what stands in it.
 #[derive(Clone, Copy, Debug)]
@@ -31,6 +32,20 @@ pub enum Line {
     /// The byte at which an input is no capture.
     CaptureByte {
         place: u32,
+        cause: &'static str,
+    },
+    /// The line of a script whose act is refused, with the fault's number and name, and the page that is told
+    /// with it.
+    RefusedLine {
+        line: u32,
+        number: u32,
+        name: &'static str,
+        key: Option<PageKey>,
+    },
+    /// The line and the column at which bytes are no script.
+    ScriptLine {
+        line: u32,
+        column: u32,
         cause: &'static str,
     },
 }

@@ -9,6 +9,7 @@ use crate::field::Field::{Byte, Key, Unsigned};
 use crate::render::Render;
 use crate::runs::run_length;
 use itoa::Buffer;
+use svga_cmd::constants::PAGE_SIZE;
 use svga_cmd::{Page, PageKey};
 use svga_io::{Sink, WriteFault};
 
@@ -22,7 +23,8 @@ impl Render {
         page: &Page,
     ) -> Result<(), WriteFault>
         ensures ok { OnOk result (Grows K.held K.faults sink.old sink.new (page_text key page.now)) }
-        ensures fault { OnErr result (GrowsByPrefix K.held K.faults sink.old sink.new (page_text key page.now)) }
+        ensures fault { OnErr result (GrowsByPrefix K.held K.faults sink.old sink.new
+            (page_text key page.now)) }
     {
         self.pending.clear();
         self.pending.line(sink, "page", &[Key(key)])?;
@@ -32,7 +34,7 @@ impl Render {
 
     /// Takes on the lines of these bytes.
     fn bytes<K: Sink>(&mut self, sink: &mut K, bytes: &[u8]) -> Result<(), WriteFault>
-        requires { length bytes.now ≤ 4096 }
+        requires { length bytes.now ≤ PAGE_SIZE }
         ensures { PassesOn K.held K.faults sink.old sink.new self.old.pending self.new.pending
             (runs_text bytes_line 0 (largest_runs (◌==◌) bytes.now)) result }
     {

@@ -4,7 +4,7 @@ ghost use Rattle.std.specs.Fmt.{decimal};
 ghost use Rattle.svga_io.specs.Growing.{Grows, GrowsByPrefix};
 ghost use Rattle.svga_text.specs.Fields.{field_text};
 ghost use Rattle.svga_text.specs.Lines.{line, spaced};
-ghost use Rattle.svga_text.specs.Pages.{key_text};
+ghost use Rattle.svga_text.specs.Keys.{key_text};
 ghost use Rattle.svga_text.specs.Passing.{PassesOn};
 ghost use Rattle.svga_text.specs.Pictures.{pixels_text};
 
@@ -14,6 +14,7 @@ use itoa::Buffer;
 use std::alloc::{AllocError, Global};
 use std::marker::Model;
 use svga_cmd::PageKey;
+use svga_cmd::constants::COLOURS;
 use svga_io::{Sink, WriteFault, write_all};
 
 /// How many bytes are gathered at most.
@@ -93,7 +94,8 @@ impl Pending {
 
     /// Writes fields, each behind a space.
     pub fn fields<K: Sink>(&mut self, sink: &mut K, fields: &[Field]) -> Result<(), WriteFault>
-        ensures { PassesOn K.held K.faults sink.old sink.new self.old self.new (spaced (map field_text fields.now)) result }
+        ensures { PassesOn K.held K.faults sink.old sink.new self.old self.new
+            (spaced (map field_text fields.now)) result }
     {
         for field in fields {
             self.field(sink, *field)?;
@@ -102,7 +104,8 @@ impl Pending {
     }
 
     fn field<K: Sink>(&mut self, sink: &mut K, field: Field) -> Result<(), WriteFault>
-        ensures { PassesOn K.held K.faults sink.old sink.new self.old self.new (32 ∷ field_text field) result }
+        ensures { PassesOn K.held K.faults sink.old sink.new self.old self.new
+            (32 ∷ field_text field) result }
     {
         match field {
             Field::Unsigned(n) => self.word(sink, Buffer::new().format(n).as_bytes()),
@@ -143,7 +146,7 @@ impl Pending {
         count: usize,
         colour: u32,
     ) -> Result<(), WriteFault>
-        requires { colour < 16777216 }
+        requires { colour < COLOURS }
         ensures { PassesOn K.held K.faults sink.old sink.new self.old self.new
             (32 ∷ pixels_text (count, colour)) result }
     {

@@ -11,6 +11,7 @@ ghost use Rattle.svga_text.specs.Runs.{largest_runs, runs_text};
 use crate::field::Field::{Signed, Unsigned};
 use crate::render::Render;
 use crate::runs::run_length;
+use svga_cmd::constants::COLOURS;
 use svga_io::{Sink, WriteFault};
 use svga_screen::Screens;
 
@@ -18,8 +19,10 @@ impl Render {
     /// Writes all screens by ascending id, each with the runs of equal pixels in its largest groups
     /// of equal rows. A fault leaves the sink with a prefix of the text.
     pub fn screens<K: Sink>(&mut self, sink: &mut K, screens: &Screens) -> Result<(), WriteFault>
-        ensures ok { OnOk result (Grows K.held K.faults sink.old sink.new (screens_text screens.now.screens)) }
-        ensures fault { OnErr result (GrowsByPrefix K.held K.faults sink.old sink.new (screens_text screens.now.screens)) }
+        ensures ok { OnOk result (Grows K.held K.faults sink.old sink.new
+            (screens_text screens.now.screens)) }
+        ensures fault { OnErr result (GrowsByPrefix K.held K.faults sink.old sink.new
+            (screens_text screens.now.screens)) }
     {
         self.pending.clear();
         self.all_screens(sink, screens)?;
@@ -95,7 +98,7 @@ impl Render {
         count: u32,
         row: &[u32],
     ) -> Result<(), WriteFault>
-        requires { All (λ c. c < 16777216) row.now }
+        requires { All (λ c. c < COLOURS) row.now }
         ensures { PassesOn K.held K.faults sink.old sink.new self.old.pending self.new.pending
             (rows_line first (count, row.now)) result }
     {
@@ -108,7 +111,7 @@ impl Render {
 
     /// Takes on the runs of equal pixels of a row.
     fn pixels<K: Sink>(&mut self, sink: &mut K, row: &[u32]) -> Result<(), WriteFault>
-        requires { All (λ c. c < 16777216) row.now }
+        requires { All (λ c. c < COLOURS) row.now }
         ensures { PassesOn K.held K.faults sink.old sink.new self.old.pending self.new.pending
             (spaced (map_list pixels_text (largest_runs (◌==◌) row.now))) result }
     {
@@ -125,7 +128,7 @@ impl Render {
 /// Row `y` of a screen, empty where there is none.
 fn row_of(screens: &Screens, id: u32, y: u32) -> &[u32]
     ensures row { result.now ≡ slice_index_or (rows_of screens.now.screens id) y [] }
-    ensures in_range { All (λ c. c < 16777216) result.now }
+    ensures in_range { All (λ c. c < COLOURS) result.now }
 {
     match screens.row(id, y) {
         None => &[],

@@ -7,16 +7,17 @@ ghost use Rattle.svga_text.specs.CommandLines.{command_line};
 ghost use Rattle.svga_text.specs.Fields.{field_text};
 ghost use Rattle.svga_text.specs.Lines.{line, line_text, spaced};
 ghost use Rattle.svga_text.specs.Passing.{PassesOn, Writes};
+ghost use Rattle.svga_text.specs.declared.line.Line.TheVariants.{RefusedLine};
 
-use crate::field::Field::{self, Name, Unsigned};
+use crate::field::Field::{self, Key, Name, Unsigned};
 use crate::line::Line;
 use crate::pending::Pending;
 use std::alloc::{AllocError, Global};
-use svga_cmd::CommandRef;
+use svga_cmd::{CommandRef, PageKey};
 use svga_io::{Sink, WriteFault};
 
-/// Writes lines. A call that answers Ok has put its whole line into the sink, whatever the line's length, through the
-/// one buffer that `new` took.
+/// Writes lines. A call that answers Ok has put its whole line into the sink, whatever the line's length,
+/// through the one buffer that `new` took.
 #[derive(Drop)]
 pub struct Render {
     pub(crate) pending: Pending,
@@ -30,7 +31,8 @@ impl Render {
         })
     }
 
-    /// Writes the line of a command whose first word has this number. A fault leaves the sink with a prefix of it.
+    /// Writes the line of a command whose first word has this number. A fault leaves the sink with a
+    /// prefix of it.
     pub fn command<K: Sink>(
         &mut self,
         sink: &mut K,
@@ -38,8 +40,10 @@ impl Render {
         command: &CommandRef<'_>,
     ) -> Result<(), WriteFault>
         requires { IsWellFormed (command_of command.now) }
-        ensures ok { OnOk result (Grows K.held K.faults sink.old sink.new (command_line word (command_of command.now))) }
-        ensures fault { OnErr result (GrowsByPrefix K.held K.faults sink.old sink.new (command_line word (command_of command.now))) }
+        ensures ok { OnOk result (Grows K.held K.faults sink.old sink.new
+            (command_line word (command_of command.now))) }
+        ensures fault { OnErr result (GrowsByPrefix K.held K.faults sink.old sink.new
+            (command_line word (command_of command.now))) }
     {
         match command {
             CommandRef::Update {
@@ -95,6 +99,44 @@ impl Render {
                 "capture byte",
                 &[Unsigned(*place), Name(*cause)],
             ),
+            Line::RefusedLine {
+                line: at,
+                number,
+                name,
+                key,
+            } => self.refused_line(sink, *at, *number, *name, *key),
+            Line::ScriptLine {
+                line: at,
+                column,
+                cause,
+            } => self.write(
+                sink,
+                "script line",
+                &[
+                    Unsigned(*at),
+                    Name("column"),
+                    Unsigned(*column),
+                    Name(*cause),
+                ],
+            ),
+        }
+    }
+
+    /// Writes the line of an act that is refused.
+    fn refused_line<K: Sink>(
+        &mut self,
+        sink: &mut K,
+        at: u32,
+        number: u32,
+        name: &'static str,
+        key: Option<PageKey>,
+    ) -> Result<(), WriteFault>
+        ensures { Writes K.held K.faults sink.old sink.new (line_text (RefusedLine at number name.entry key)) result }
+    {
+        let (at, fault, number, name) = (Unsigned(at), Name("fault"), Unsigned(number), Name(name));
+        match key {
+            None => self.write(sink, "refused line", &[at, fault, number, name]),
+            Some(key) => self.write(sink, "refused line", &[at, fault, number, name, Key(key)]),
         }
     }
 
@@ -105,7 +147,8 @@ impl Render {
         begin: &str,
         fields: &[Field],
     ) -> Result<(), WriteFault>
-        ensures { Writes K.held K.faults sink.old sink.new (line begin.now (map field_text fields.now)) result }
+        ensures { Writes K.held K.faults sink.old sink.new
+            (line begin.now (map field_text fields.now)) result }
     {
         self.begin(sink, begin, fields)?;
         self.end(sink)
@@ -118,7 +161,8 @@ impl Render {
         begin: &str,
         fields: &[Field],
     ) -> Result<(), WriteFault>
-        ensures { PassesOn K.held K.faults sink.old sink.new [] self.new.pending (begin.now ++ spaced (map field_text fields.now)) result }
+        ensures { PassesOn K.held K.faults sink.old sink.new [] self.new.pending
+            (begin.now ++ spaced (map field_text fields.now)) result }
     {
         self.pending.clear();
         self.pending.text(sink, begin.as_bytes())?;

@@ -1,5 +1,5 @@
 //! Texts of screens, pages and lines, each as it is to be read.
-use crate::{Line, Render};
+use crate::{Line, Render, ScriptCause, name_of_script_cause};
 use std::alloc::{AllocError, Global};
 use std::process::Abort;
 use std::test::Fail;
@@ -139,10 +139,29 @@ fn lines(rt: HostRuntime) -> Result<(), Fail> {
             place: 40,
             cause: "Order",
         },
+        Line::RefusedLine {
+            line: 9,
+            number: 8,
+            name: "NoScreen",
+            key: None,
+        },
+        Line::RefusedLine {
+            line: 10,
+            number: 22,
+            name: "PageLent",
+            key: Some(PageKey::Frame(3)),
+        },
+        Line::ScriptLine {
+            line: 2,
+            column: 7,
+            cause: name_of_script_cause(ScriptCause::Extra),
+        },
     ] {
         assert_eq!(rt; render.line(&mut sink, &line), Ok(()));
     }
-    let text = "commands 12\nfault at command 3 7 NoGmrfb\nend\ncapture byte 40 Order\n";
+    let text = "commands 12\nfault at command 3 7 NoGmrfb\nend\ncapture byte 40 Order\n\
+        refused line 9 fault 8 NoScreen\nrefused line 10 fault 22 PageLent f3\n\
+        script line 2 column 7 Extra\n";
     assert_eq!(rt; sink.bytes(), text.as_bytes());
     Ok(())
 }

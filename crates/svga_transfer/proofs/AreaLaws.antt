@@ -62,7 +62,8 @@ module _ (b : Blit) (id : ℕ) (d : ScreenDef) (x y : ℤ) (area : Area) (is_x :
       some_rows : area.height ≡ 0 → ⊥
       some_rows none = some (ap (λ a. a.width) (clip.no_rows none))
 
--- The areas of the screens with ids below n, of which each is painted where a pixel of the screen gets a colour.
+-- The areas of the screens with ids below n, of which each is painted where a pixel of the screen gets a
+-- colour.
 pub record AreAreas (colour : ℕ → ScreenDef → ℕ → ℕ → Option ℕ) (definitions : ℕ → Option ScreenDef) (n : ℕ)
     (areas : List Area) : Type 0 where
   pub count : length areas ≤ n

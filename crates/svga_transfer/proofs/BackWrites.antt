@@ -32,7 +32,8 @@ length-bytes_of Bgr24 colour = refl
 length-bytes_of Rgb565 colour = refl
 length-bytes_of Rgb555 colour = refl
 
--- Where each place writes the bytes of its colour, one pixel behind the other, all of them together write the row.
+-- Where each place writes the bytes of its colour, one pixel behind the other, all of them together write
+-- the row.
 row_writes : (f : ℤ → List ByteWrite) (format : Format) (X : ℤ) (colours : List ℕ) (a i : ℕ)
     → ((k : ℕ) → k < length colours
     → f (X +ℤ pos (a + k)) ≡ writes_from (i + k * pixel_length format) (bytes_of format (slice_index colours k)))

@@ -1,4 +1,5 @@
--- Places on a screen, counted from its corner, and what of its columns is behind one column and before another.
+-- Places on a screen, counted from its corner, and what of its columns is behind one column and before
+-- another.
 use Rattle.std.proofs.Common.{◌≡◌, ℕ, ◌-◌, ◌<◌, ◌≤◌, refl, ap, ◌∙◌, subst, ℤ, pos, ◌+ℤ◌, ◌≤ℤ◌, ◌<ℤ◌, FitsSigned, w32, w64, to_z, of_z, arith}
 use Rattle.std.proofs.lemmas.Int.{by_lt_z, ints, to_z-of_z}
 use Rattle.svga_transfer.proofs.WholeTests.{not_both}

@@ -1,4 +1,5 @@
--- The places of an UPDATE's blit are those of its rectangle that the guest framebuffer has, and where its bytes begin.
+-- The places of an UPDATE's blit are those of its rectangle that the guest framebuffer has, and where its
+-- bytes begin.
 use Rattle.std.proofs.Common.{◌≡◌, ℕ, ◌+◌, ◌*◌, ◌<◌, refl, sym, ap, ◌∙◌, Bool, true, false, ◌&&◌, ℤ, pos, negsuc, ◌+ℤ◌, ◌-ℤ◌, ◌*ℤ◌, int_lt, int_le, unsigned_abs, arith}
 use Rattle.std.proofs.lemmas.Bool.Decides.{nat_tests}
 use Rattle.std.proofs.lemmas.Int.{ints}
@@ -68,7 +69,8 @@ module _ (l : Limits) (x y width height : ℕ) where
       ∙ crossed across frame_across down frame_down
       ∙ sym (λ i. here i && there i)
 
-  -- the bytes of the framebuffer's pixel at a place begin behind those of the rows above and of the pixels before it
+  -- the bytes of the framebuffer's pixel at a place begin behind those of the rows above and of the pixels
+  -- before it
   pub offset_at : (X Y : ℤ) → IsOnFrame l X Y → blit_offset (frame_gmrfb l) (update_blit l x y width height) X Y
       ≡ pos (4 * (unsigned_abs Y * l.gfb_width + unsigned_abs X))
   offset_at X Y at =

@@ -21,9 +21,12 @@ area_at areas i = slice_index_or areas i no_area
 abbrev pub HasAreaOf : List Area → ℕ → Type 0
 HasAreaOf areas id = (i : ℕ) × (i < length areas) × ((area_at areas i).screen ≡ id)
 
--- The areas that are painted, where each pixel of a screen gets a new colour or none: one for each screen with a pixel
--- that gets one, by ascending id.
-pub record ArePainted (colour : NewColours) (definitions : ℕ → Option ScreenDef) (areas : List Area) : Type 0 where
-  pub each : (i : ℕ) → i < length areas → IsSomeAnd (definitions (area_at areas i).screen) (λ d. IsPainted (colour (area_at areas i).screen d) d (area_at areas i))
+-- The areas that are painted, where each pixel of a screen gets a new colour or none: one for each screen
+-- with a pixel that gets one, by ascending id.
+pub record ArePainted (colour : NewColours) (definitions : ℕ → Option ScreenDef)
+    (areas : List Area) : Type 0 where
+  pub each : (i : ℕ) → i < length areas → IsSomeAnd (definitions (area_at areas i).screen)
+      (λ d. IsPainted (colour (area_at areas i).screen d) d (area_at areas i))
   pub ascending : (i j : ℕ) → i < j → j < length areas → (area_at areas i).screen < (area_at areas j).screen
-  pub all : (id : ℕ) (d : ScreenDef) (x y : ℕ) → definitions id ≡ Some d → x < d.width → y < d.height → is_some (colour id d x y) ≡ true → HasAreaOf areas id
+  pub all : (id : ℕ) (d : ScreenDef) (x y : ℕ) → definitions id ≡ Some d → x < d.width → y < d.height
+      → is_some (colour id d x y) ≡ true → HasAreaOf areas id

@@ -1,5 +1,6 @@
 -- What screens with ids from one to below another show of a blit.
 use Rattle.std.specs.Prelude.{◌≡◌, ℕ, ◌+◌, ◌<◌, ◌≤◌, Bool, ℤ, pos, ◌+ℤ◌, ◌≤ℤ◌, ◌<ℤ◌, int_le, int_lt, false, ◌&&◌, if◌then◌else◌, Option, Some, None, IsSomeAnd}
+use Rattle.svga_cmd.specs.declared.constants.TheConstants.{MAX_SCREEN_SIDE}
 use Rattle.svga_cmd.specs.declared.blit.Blit.{Blit}
 use Rattle.svga_cmd.specs.declared.screen.ScreenDef.{ScreenDef}
 use Rattle.svga_model.specs.BlitPixels.{ScreenPixel, corner_x, corner_y, covered_on, is_meant}
@@ -22,8 +23,8 @@ site_of (Some d) screen id = if is_meant screen id then Some (site_on screen d) 
 
 -- its sides are no longer than those of a screen
 pub record IsShort (s : Site) : Type 0 where
-  pub width : s.width ≤ 8192
-  pub height : s.height ≤ 8192
+  pub width : s.width ≤ MAX_SCREEN_SIDE
+  pub height : s.height ≤ MAX_SCREEN_SIDE
 
 -- how far a place is behind the first of so many: 0 before it, and their count past the end
 pub record IsSteps (start : ℤ) (count : ℕ) (place : ℤ) (n : ℕ) : Type 0 where
@@ -65,18 +66,20 @@ run_pixel r k = record { screen = r.screen; x = r.x + k; y = r.y }
 -- no place of row Y from column `from` to below column `to` is on one of the screens
 abbrev pub IsBareOf : (ℕ → Option ScreenDef) → Blit → ℕ → ℕ → ℤ → ℤ → ℤ → Type 0
 IsBareOf definitions b low high Y from to =
-    (id : ℕ) → low ≤ id → id < high → (X : ℤ) → from ≤ℤ X → X <ℤ to → covered_on (definitions id) id b.screen X Y ≡ None
+    (id : ℕ) → low ≤ id → id < high → (X : ℤ) → from ≤ℤ X → X <ℤ to
+    → covered_on (definitions id) id b.screen X Y ≡ None
 
 -- no row from one to below another has a place of the blit that is on one of the screens
 abbrev pub AreBareOf : (ℕ → Option ScreenDef) → Blit → ℕ → ℕ → ℤ → ℤ → Type 0
 AreBareOf definitions b low high from to =
     (Y : ℤ) → from ≤ℤ Y → Y <ℤ to → IsBareOf definitions b low high Y b.rect.left b.rect.right
 
--- The next run of the screens from column `from` to below column `to` of row Y. Of these screens none with a lower id
--- shows one of its places.
-pub record IsFirstOf (definitions : ℕ → Option ScreenDef) (b : Blit) (low high : ℕ) (from to Y : ℤ) (r : Run) : Type 0 where
+-- The next run of the screens from column `from` to below column `to` of row Y. Of these screens none with
+-- a lower id shows one of its places.
+pub record IsFirstOf (definitions : ℕ → Option ScreenDef) (b : Blit) (low high : ℕ) (from to Y : ℤ)
+    (r : Run) : Type 0 where
   pub some : 0 < r.length
-  pub short : r.length ≤ 8192
+  pub short : r.length ≤ MAX_SCREEN_SIDE
   pub screen : (low ≤ r.screen) × (r.screen < high)
   pub behind : from ≤ℤ r.from
   pub before : (r.from +ℤ pos r.length) ≤ℤ to

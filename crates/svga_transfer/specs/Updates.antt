@@ -1,15 +1,14 @@
 -- UPDATE as a blit: the guest framebuffer is a GMRFB whose places are those of virtual coordinates.
 use Rattle.std.specs.Prelude.{ℕ, ◌+◌, ◌*◌, pos, nat_le, if◌then◌else◌}
 use Rattle.svga_cmd.specs.declared.blit.Blit.{Blit}
+use Rattle.svga_cmd.specs.declared.constants.TheConstants.{SVGA_GMR_FRAMEBUFFER, SVGA_ID_INVALID}
 use Rattle.svga_cmd.specs.declared.format.Format.TheVariants.{Bgrx32}
 use Rattle.svga_cmd.specs.declared.gmrfb.Gmrfb.{Gmrfb}
 use Rattle.svga_cmd.specs.declared.limits.Limits.{Limits}
-use Rattle.svga_model.specs.BlitPixels.{all_screens}
-use Rattle.svga_model.specs.Regions.{frame_region}
 
 -- the guest framebuffer's pixels, row behind row
 abbrev pub frame_gmrfb : Limits → Gmrfb
-frame_gmrfb l = record { region = frame_region; offset = 0; pitch = 4 * l.gfb_width; format = Bgrx32 }
+frame_gmrfb l = record { region = SVGA_GMR_FRAMEBUFFER; offset = 0; pitch = 4 * l.gfb_width; format = Bgrx32 }
 
 -- a number, or the end where it lies past it
 abbrev pub up_to : ℕ → ℕ → ℕ
@@ -25,5 +24,5 @@ update_blit l x y width height = record {
     right = pos (up_to l.gfb_width (x + width));
     bottom = pos (up_to l.gfb_height (y + height));
   };
-  screen = all_screens;
+  screen = SVGA_ID_INVALID;
 }

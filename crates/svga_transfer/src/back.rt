@@ -5,7 +5,7 @@ ghost use Rattle.svga_model.specs.BlitFaults.{is_outside};
 ghost use Rattle.svga_model.specs.BlitPixels.{blit_offset};
 ghost use Rattle.svga_model.specs.Memories.{written};
 ghost use Rattle.svga_model.specs.Screens.{definitions_of};
-ghost use Rattle.svga_model.specs.Regions.{region_places};
+ghost use Rattle.svga_region.specs.RegionSet.{places_in};
 ghost use Rattle.svga_transfer.specs.Backs.{writes_along};
 ghost use Rattle.svga_transfer.specs.Reach.{AreMapped, HasPages};
 ghost use Rattle.svga_transfer.specs.Runs.{IsRun};
@@ -19,8 +19,8 @@ use svga_pixel::{pixel_length, write_row};
 use svga_region::Regions;
 use svga_screen::Screens;
 
-/// Writes to the GMRFB what the screens show, from the top down and along each row from the left. Where several
-/// screens show a place, it is what the one with the least id shows.
+/// Writes to the GMRFB what the screens show, from the top down and along each row from the left. Where
+/// several screens show a place, it is what the one with the least id shows.
 pub fn blit_to_region<P: PageStore>(
     regions: &Regions,
     screens: &Screens,
@@ -29,9 +29,11 @@ pub fn blit_to_region<P: PageStore>(
     blit: &Blit,
     room: &mut RowRoom,
 )
-    requires mapped { AreMapped (definitions_of screens.now.screens) gmrfb.now blit.now (region_places regions.now.frame regions.now.regions gmrfb.now.region) }
-    requires there { HasPages (P.pages store.old) (region_places regions.now.frame regions.now.regions gmrfb.now.region) }
-    ensures written { P.pages store.new ≡ written (region_places regions.now.frame regions.now.regions gmrfb.now.region) (P.pages store.old) (blit_writes screens.now.screens gmrfb.now blit.now) }
+    requires mapped { AreMapped (definitions_of screens.now.screens) gmrfb.now blit.now
+        (places_in regions.now gmrfb.now.region) }
+    requires there { HasPages (P.pages store.old) (places_in regions.now gmrfb.now.region) }
+    ensures written { P.pages store.new ≡ written (places_in regions.now gmrfb.now.region) (P.pages store.old)
+        (blit_writes screens.now.screens gmrfb.now blit.now) }
     ensures rest { P.rest store.new ≡ P.rest store.old }
 {
     let bottom = i64::from(blit.rect.bottom);
@@ -57,9 +59,11 @@ fn back_row<P: PageStore>(
 )
     requires row { (blit.now.rect.top ≤ℤ y) × (y <ℤ blit.now.rect.bottom) }
     requires near { unsigned_abs y ≤ 2 ^ 32 }
-    requires mapped { AreMapped (definitions_of screens.now.screens) gmrfb.now blit.now (region_places regions.now.frame regions.now.regions gmrfb.now.region) }
-    requires there { HasPages (P.pages store.old) (region_places regions.now.frame regions.now.regions gmrfb.now.region) }
-    ensures written { P.pages store.new ≡ written (region_places regions.now.frame regions.now.regions gmrfb.now.region) (P.pages store.old) (writes_along screens.now.screens gmrfb.now blit.now y blit.now.rect.left blit.now.rect.right) }
+    requires mapped { AreMapped (definitions_of screens.now.screens) gmrfb.now blit.now
+        (places_in regions.now gmrfb.now.region) }
+    requires there { HasPages (P.pages store.old) (places_in regions.now gmrfb.now.region) }
+    ensures written { P.pages store.new ≡ written (places_in regions.now gmrfb.now.region) (P.pages store.old)
+        (writes_along screens.now.screens gmrfb.now blit.now y blit.now.rect.left blit.now.rect.right) }
     ensures rest { P.rest store.new ≡ P.rest store.old }
 {
     let right = i64::from(blit.rect.right);
@@ -88,9 +92,11 @@ fn back_run<P: PageStore>(
     requires near_y { unsigned_abs y ≤ 2 ^ 32 }
     requires near_x { unsigned_abs run.from ≤ 2 ^ 32 }
     requires run { IsRun (definitions_of screens.now.screens) blit.now y run }
-    requires mapped { AreMapped (definitions_of screens.now.screens) gmrfb.now blit.now (region_places regions.now.frame regions.now.regions gmrfb.now.region) }
-    requires there { HasPages (P.pages store.old) (region_places regions.now.frame regions.now.regions gmrfb.now.region) }
-    ensures written { P.pages store.new ≡ written (region_places regions.now.frame regions.now.regions gmrfb.now.region) (P.pages store.old) (writes_along screens.now.screens gmrfb.now blit.now y run.from (run.from +ℤ pos run.length)) }
+    requires mapped { AreMapped (definitions_of screens.now.screens) gmrfb.now blit.now
+        (places_in regions.now gmrfb.now.region) }
+    requires there { HasPages (P.pages store.old) (places_in regions.now gmrfb.now.region) }
+    ensures written { P.pages store.new ≡ written (places_in regions.now gmrfb.now.region) (P.pages store.old)
+        (writes_along screens.now.screens gmrfb.now blit.now y run.from (run.from +ℤ pos run.length)) }
     ensures rest { P.rest store.new ≡ P.rest store.old }
 {
     if let Some(row) = screens.row(run.screen, run.y) {

@@ -1,19 +1,20 @@
 //! Bytes of a region, page by page.
 ghost use Rattle.std.specs.Prelude.{◌≡◌, ◌+◌, ◌-◌, ◌%◌, ◌<◌, ◌≤◌, ◌^◌, ◌++◌, IsSome, Some, drop, length, map as map_list, min, take};
 ghost use Rattle.std.specs.List.{range_with_len};
-ghost use Rattle.svga_model.specs.Memories.{region_byte, writes_from, written};
+ghost use Rattle.svga_model.specs.Memories.{writes_from, written};
 ghost use Rattle.svga_model.specs.RegionBytes.{page_of_byte};
-ghost use Rattle.svga_model.specs.Regions.{region_places};
-ghost use Rattle.svga_transfer.specs.Reach.{HasBytes};
+ghost use Rattle.svga_region.specs.RegionSet.{places_in};
+ghost use Rattle.svga_transfer.specs.Reach.{HasBytes, byte_in};
 
+use svga_cmd::constants::PAGE_SIZE;
 use svga_cmd::{PageKey, PageStore};
 use svga_region::Regions;
 
 /// The page that a mapped byte lies on, and the byte's number there.
 fn locate(regions: &Regions, region: u32, at: u64) -> (PageKey, usize)
-    requires mapped { IsSome (page_of_byte (region_places regions.now.frame regions.now.regions region) at) }
-    ensures page { page_of_byte (region_places regions.now.frame regions.now.regions region) at ≡ Some result.0 }
-    ensures start { result.1 ≡ at % 4096 }
+    requires mapped { IsSome (page_of_byte (places_in regions.now region) at) }
+    ensures page { page_of_byte (places_in regions.now region) at ≡ Some result.0 }
+    ensures start { result.1 ≡ at % PAGE_SIZE }
 {
     match regions.locate(region, at) {
         Ok((key, start)) => (key, start as usize),
@@ -21,7 +22,8 @@ fn locate(regions: &Regions, region: u32, at: u64) -> (PageKey, usize)
     }
 }
 
-/// Reads bytes of a region from byte `at` on, as far as the page goes that it lies on. Answers how many were read.
+/// Reads bytes of a region from byte `at` on, as far as the page goes that it lies on. Answers how many
+/// were read.
 fn read_piece<P: PageStore>(
     regions: &Regions,
     store: &P,
@@ -30,9 +32,10 @@ fn read_piece<P: PageStore>(
     bytes: &mut [u8],
 ) -> usize
     requires some { 0 < length bytes.old }
-    requires there { HasBytes (P.pages store.now) (region_places regions.now.frame regions.now.regions region) at (length bytes.old) }
-    ensures count { result ≡ min (length bytes.old) (4096 - at % 4096) }
-    ensures read { bytes.new ≡ map_list (region_byte (P.pages store.now) (region_places regions.now.frame regions.now.regions region)) (range_with_len at result) ++ drop result bytes.old }
+    requires there { HasBytes (P.pages store.now) (places_in regions.now region) at (length bytes.old) }
+    ensures count { result ≡ min (length bytes.old) (PAGE_SIZE - at % PAGE_SIZE) }
+    ensures read { bytes.new ≡ map_list (byte_in (P.pages store.now) regions.now region)
+        (range_with_len at result) ++ drop result bytes.old }
 {
     let (key, start) = locate(regions, region, at);
     let page = store.page(key).bytes();
@@ -49,8 +52,9 @@ pub fn read_bytes<P: PageStore>(
     from: u64,
     bytes: &mut [u8],
 )
-    requires there { HasBytes (P.pages store.now) (region_places regions.now.frame regions.now.regions region) from (length bytes.old) }
-    ensures { bytes.new ≡ map_list (region_byte (P.pages store.now) (region_places regions.now.frame regions.now.regions region)) (range_with_len from (length bytes.old)) }
+    requires there { HasBytes (P.pages store.now) (places_in regions.now region) from (length bytes.old) }
+    ensures { bytes.new ≡ map_list (byte_in (P.pages store.now) regions.now region)
+        (range_with_len from (length bytes.old)) }
 {
     // Asked once, so that the proof knows that no number of a byte is too large.
     let _places = regions.length(region);
@@ -61,7 +65,8 @@ pub fn read_bytes<P: PageStore>(
     }
 }
 
-/// Writes bytes to a region from byte `at` on, as far as the page goes that it lies on. Answers how many were written.
+/// Writes bytes to a region from byte `at` on, as far as the page goes that it lies on. Answers how many
+/// were written.
 fn write_piece<P: PageStore>(
     regions: &Regions,
     store: &mut P,
@@ -70,9 +75,10 @@ fn write_piece<P: PageStore>(
     bytes: &[u8],
 ) -> usize
     requires some { 0 < length bytes.now }
-    requires there { HasBytes (P.pages store.old) (region_places regions.now.frame regions.now.regions region) at (length bytes.now) }
-    ensures count { result ≡ min (length bytes.now) (4096 - at % 4096) }
-    ensures written { P.pages store.new ≡ written (region_places regions.now.frame regions.now.regions region) (P.pages store.old) (writes_from at (take result bytes.now)) }
+    requires there { HasBytes (P.pages store.old) (places_in regions.now region) at (length bytes.now) }
+    ensures count { result ≡ min (length bytes.now) (PAGE_SIZE - at % PAGE_SIZE) }
+    ensures written { P.pages store.new ≡ written (places_in regions.now region) (P.pages store.old)
+        (writes_from at (take result bytes.now)) }
     ensures rest { P.rest store.new ≡ P.rest store.old }
 {
     let (key, start) = locate(regions, region, at);
@@ -82,8 +88,8 @@ fn write_piece<P: PageStore>(
     count
 }
 
-/// Writes bytes to a region from byte `from` on, one after another: where two places are mapped to one page, what is
-/// written last stands.
+/// Writes bytes to a region from byte `from` on, one after another: where two places are mapped to one
+/// page, what is written last stands.
 pub fn write_bytes<P: PageStore>(
     regions: &Regions,
     store: &mut P,
@@ -91,8 +97,9 @@ pub fn write_bytes<P: PageStore>(
     from: u64,
     bytes: &[u8],
 )
-    requires there { HasBytes (P.pages store.old) (region_places regions.now.frame regions.now.regions region) from (length bytes.now) }
-    ensures written { P.pages store.new ≡ written (region_places regions.now.frame regions.now.regions region) (P.pages store.old) (writes_from from bytes.now) }
+    requires there { HasBytes (P.pages store.old) (places_in regions.now region) from (length bytes.now) }
+    ensures written { P.pages store.new ≡ written (places_in regions.now region) (P.pages store.old)
+        (writes_from from bytes.now) }
     ensures rest { P.rest store.new ≡ P.rest store.old }
 {
     // Asked once, so that the proof knows that no number of a byte is too large.

@@ -1,7 +1,7 @@
 //! Pixels and words between the pages of a store and screens: bytes of regions, blits both ways, and UPDATE.
 //!
-//! Nothing here judges a command. A call on bytes or words asks for the pages on which they lie, and a blit for those of
-//! all mapped places of its region, and that each byte of its pixels lies on one.
+//! Nothing here judges a command. A call on bytes or words asks for the pages on which they lie, and a blit
+//! for those of all mapped places of its region, and that each byte of its pixels lies on one.
 #![tactic(auto)]
 
 mod back;

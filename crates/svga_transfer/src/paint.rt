@@ -6,18 +6,18 @@ ghost use Rattle.svga_cmd.specs.declared.screen.ScreenDef.{ScreenDef as ScreenDe
 ghost use Rattle.svga_model.specs.BlitEffects.{blit_colour, repainted_screens};
 ghost use Rattle.svga_model.specs.BlitPixels.{blit_offset, corner_x, corner_y, is_meant as means};
 ghost use Rattle.svga_model.specs.Colours.{pixel_length as bytes_per_pixel};
-ghost use Rattle.svga_model.specs.Memories.{region_byte};
 ghost use Rattle.svga_model.specs.Screens.{AreScreens, IsDefinition, IsOnScreen, definitions_of, painted};
-ghost use Rattle.svga_model.specs.Regions.{region_places};
+ghost use Rattle.svga_region.specs.RegionSet.{places_in};
 ghost use Rattle.svga_transfer.specs.Areas.{ArePainted, IsPainted};
 ghost use Rattle.svga_transfer.specs.Painting.{IsRepainted, colours_from};
-ghost use Rattle.svga_transfer.specs.Reach.{AreMapped, HasBytes, HasPages};
+ghost use Rattle.svga_transfer.specs.Reach.{AreMapped, HasBytes, HasPages, byte_in, blit_colour_in};
 
 use crate::bytes::read_bytes;
 use crate::meant::{corner_of, is_meant};
 use crate::room::RowRoom;
 use crate::start::first_byte;
 use arrayvec::ArrayVec;
+use svga_cmd::constants::{COLOURS, MAX_SCREEN_SIDE};
 use svga_cmd::{Blit, Gmrfb, PageStore, ScreenDef};
 use svga_pixel::{pixel_length, read_row};
 use svga_region::Regions;
@@ -32,10 +32,15 @@ pub fn blit_to_screens<P: PageStore>(
     blit: &Blit,
     room: &mut RowRoom,
 ) -> ArrayVec<Area, 16>
-    requires mapped { AreMapped (definitions_of screens.old.screens) gmrfb.now blit.now (region_places regions.now.frame regions.now.regions gmrfb.now.region) }
-    requires there { HasPages (P.pages store.now) (region_places regions.now.frame regions.now.regions gmrfb.now.region) }
-    ensures painted { screens.new ≡ record screens.old { screens = repainted_screens (blit_colour (region_byte (P.pages store.now) (region_places regions.now.frame regions.now.regions gmrfb.now.region)) gmrfb.now blit.now) screens.old.screens } }
-    ensures areas { ArePainted (blit_colour (region_byte (P.pages store.now) (region_places regions.now.frame regions.now.regions gmrfb.now.region)) gmrfb.now blit.now) (definitions_of screens.old.screens) result.items }
+    requires mapped { AreMapped (definitions_of screens.old.screens) gmrfb.now blit.now
+        (places_in regions.now gmrfb.now.region) }
+    requires there { HasPages (P.pages store.now) (places_in regions.now gmrfb.now.region) }
+    ensures painted { screens.new ≡ record screens.old {
+      screens = repainted_screens (blit_colour_in (P.pages store.now) regions.now gmrfb.now blit.now)
+          screens.old.screens;
+    } }
+    ensures areas { ArePainted (blit_colour_in (P.pages store.now) regions.now gmrfb.now blit.now)
+        (definitions_of screens.old.screens) result.items }
 {
     let mut areas = ArrayVec::new();
     for id in 0..16 {
@@ -56,11 +61,17 @@ fn paint_screen<P: PageStore>(
     id: u32,
     room: &mut RowRoom,
 ) -> Option<Area>
-    requires mapped { AreMapped (definitions_of screens.old.screens) gmrfb.now blit.now (region_places regions.now.frame regions.now.regions gmrfb.now.region) }
-    requires there { HasPages (P.pages store.now) (region_places regions.now.frame regions.now.regions gmrfb.now.region) }
-    ensures painted { IsRepainted (blit_colour (region_byte (P.pages store.now) (region_places regions.now.frame regions.now.regions gmrfb.now.region)) gmrfb.now blit.now id) id screens.old screens.new }
-    ensures some { IfSome result (λ area. (area.screen ≡ id) × IsSomeAnd (definitions_of screens.old.screens id) (λ d. IsPainted (blit_colour (region_byte (P.pages store.now) (region_places regions.now.frame regions.now.regions gmrfb.now.region)) gmrfb.now blit.now id d) d area)) }
-    ensures none { IfNone result ((d : ScreenDefValue) (x y : ℕ) → definitions_of screens.old.screens id ≡ Some d → x < d.width → y < d.height → blit_colour (region_byte (P.pages store.now) (region_places regions.now.frame regions.now.regions gmrfb.now.region)) gmrfb.now blit.now id d x y ≡ None) }
+    requires mapped { AreMapped (definitions_of screens.old.screens) gmrfb.now blit.now
+        (places_in regions.now gmrfb.now.region) }
+    requires there { HasPages (P.pages store.now) (places_in regions.now gmrfb.now.region) }
+    ensures painted { IsRepainted (blit_colour_in (P.pages store.now) regions.now gmrfb.now blit.now id) id
+        screens.old screens.new }
+    ensures some { IfSome result (λ area. (area.screen ≡ id)
+        × IsSomeAnd (definitions_of screens.old.screens id)
+        (λ d. IsPainted (blit_colour_in (P.pages store.now) regions.now gmrfb.now blit.now id d) d area)) }
+    ensures none { IfNone result ((d : ScreenDefValue) (x y : ℕ) → definitions_of screens.old.screens id
+        ≡ Some d → x < d.width → y < d.height → blit_colour_in
+        (P.pages store.now) regions.now gmrfb.now blit.now id d x y ≡ None) }
     // No screen has a higher id.
     ensures ids { (q : ℕ) → 16 ≤ q → map.get screens.old.screens q ≡ None }
 {
@@ -73,8 +84,12 @@ fn paint_screen<P: PageStore>(
 /// The part of a screen that the blit paints, if there is one.
 fn painted_area(blit: &Blit, id: u32, def: &ScreenDef) -> Option<Area>
     requires { IsDefinition id def.now }
-    ensures some { (bytes : ℕ → ℕ) (g : GmrfbValue) → IfSome result (λ area. (area.screen ≡ id) × IsPainted (blit_colour bytes g blit.now id def.now) def.now area) }
-    ensures none { (bytes : ℕ → ℕ) (g : GmrfbValue) → IfNone result ((x y : ℕ) → x < def.now.width → y < def.now.height → blit_colour bytes g blit.now id def.now x y ≡ None) }
+    ensures some { (bytes : ℕ → ℕ) (g : GmrfbValue)
+        → IfSome result (λ area. (area.screen ≡ id)
+        × IsPainted (blit_colour bytes g blit.now id def.now) def.now area) }
+    ensures none { (bytes : ℕ → ℕ) (g : GmrfbValue)
+        → IfNone result ((x y : ℕ) → x < def.now.width → y < def.now.height
+        → blit_colour bytes g blit.now id def.now x y ≡ None) }
 {
     if !is_meant(blit, id) {
         return None;
@@ -101,10 +116,13 @@ fn paint_rows<P: PageStore>(
     requires valid { AreScreens screens.old.budget screens.old.screens }
     requires definition { IsDefinition area.screen def.now }
     requires defined { definitions_of screens.old.screens area.screen ≡ Some def.now }
-    requires area { IsPainted (blit_colour (region_byte (P.pages store.now) (region_places regions.now.frame regions.now.regions gmrfb.now.region)) gmrfb.now blit.now area.screen def.now) def.now area }
-    requires mapped { AreMapped (definitions_of screens.old.screens) gmrfb.now blit.now (region_places regions.now.frame regions.now.regions gmrfb.now.region) }
-    requires there { HasPages (P.pages store.now) (region_places regions.now.frame regions.now.regions gmrfb.now.region) }
-    ensures { IsRepainted (blit_colour (region_byte (P.pages store.now) (region_places regions.now.frame regions.now.regions gmrfb.now.region)) gmrfb.now blit.now area.screen) area.screen screens.old screens.new }
+    requires area { IsPainted (blit_colour_in (P.pages store.now) regions.now gmrfb.now blit.now area.screen
+        def.now) def.now area }
+    requires mapped { AreMapped (definitions_of screens.old.screens) gmrfb.now blit.now
+        (places_in regions.now gmrfb.now.region) }
+    requires there { HasPages (P.pages store.now) (places_in regions.now gmrfb.now.region) }
+    ensures { IsRepainted (blit_colour_in (P.pages store.now) regions.now gmrfb.now blit.now area.screen)
+        area.screen screens.old screens.new }
 {
     let corner = corner_of(blit, def);
     let left = place(corner.x, area.left);
@@ -125,10 +143,15 @@ fn paint_row<P: PageStore>(
     row: u32,
     room: &mut RowRoom,
 )
-    requires short { area.width ≤ 8192 }
+    requires short { area.width ≤ MAX_SCREEN_SIDE }
     requires on_screen { IsOnScreen (definitions_of screens.old.screens area.screen) area.left row area.width }
-    requires there { HasBytes (P.pages store.now) (region_places regions.now.frame regions.now.regions gmrfb.now.region) from (area.width * bytes_per_pixel gmrfb.now.format) }
-    ensures { screens.new ≡ record screens.old { screens = painted screens.old.screens area.screen area.left row (colours_from (region_byte (P.pages store.now) (region_places regions.now.frame regions.now.regions gmrfb.now.region)) gmrfb.now.format from area.width) } }
+    requires there { HasBytes (P.pages store.now) (places_in regions.now gmrfb.now.region) from
+        (area.width * bytes_per_pixel gmrfb.now.format) }
+    ensures { screens.new ≡ record screens.old {
+      screens = painted screens.old.screens area.screen area.left
+          row (colours_from (byte_in (P.pages store.now) regions.now gmrfb.now.region) gmrfb.now.format from
+          area.width);
+    } }
 {
     let width = area.width as usize;
     read_colours(
@@ -143,7 +166,8 @@ fn paint_row<P: PageStore>(
     screens.paint(area.screen, area.left, row, &room.colours[..width]);
 }
 
-/// Reads the colours of `width` pixels that stand one behind another in the GMRFB's region from byte `from` on.
+/// Reads the colours of `width` pixels that stand one behind another in the GMRFB's region from byte `from`
+/// on.
 fn read_colours<P: PageStore>(
     regions: &Regions,
     store: &P,
@@ -155,9 +179,11 @@ fn read_colours<P: PageStore>(
 )
     requires colours { width ≤ length colours.old }
     requires bytes { width * bytes_per_pixel gmrfb.now.format ≤ length bytes.old }
-    requires there { HasBytes (P.pages store.now) (region_places regions.now.frame regions.now.regions gmrfb.now.region) from (width * bytes_per_pixel gmrfb.now.format) }
-    ensures colours { take width colours.new ≡ colours_from (region_byte (P.pages store.now) (region_places regions.now.frame regions.now.regions gmrfb.now.region)) gmrfb.now.format from width }
-    ensures in_range { All (λ c. c < 16777216) (take width colours.new) }
+    requires there { HasBytes (P.pages store.now) (places_in regions.now gmrfb.now.region) from
+        (width * bytes_per_pixel gmrfb.now.format) }
+    ensures colours { take width colours.new ≡ colours_from
+        (byte_in (P.pages store.now) regions.now gmrfb.now.region) gmrfb.now.format from width }
+    ensures in_range { All (λ c. c < COLOURS) (take width colours.new) }
 {
     let count = width * pixel_length(gmrfb.format);
     read_bytes(regions, store, gmrfb.region, from, &mut bytes[..count]);

@@ -3,6 +3,7 @@ ghost use Rattle.std.specs.Prelude.{◌≡◌};
 
 use std::alloc::{AllocError, Global};
 use std::marker::Model;
+use svga_cmd::constants::MAX_SCREEN_SIDE;
 
 /// Room for the colours of the longest row of a screen, 8,192 pixels, and for their bytes in any format.
 #[derive(Drop)]
@@ -12,20 +13,22 @@ pub struct RowRoom {
 }
 
 impl Model for RowRoom {
-    ghost use Rattle.std.specs.Prelude.{◌≡◌, length};
+    ghost use Rattle.std.specs.Prelude.{◌≡◌, ◌*◌, length};
+    ghost use Rattle.svga_cmd.specs.declared.constants.TheConstants.{MAX_SCREEN_SIDE};
 
     ghost Value = { Unit {0} };
 
     ghost view = { λ _. tt };
 
-    ghost invariant = { λ room. (length room.colours.items ≡ 8192) × (length room.bytes.items ≡ 32768) };
+    ghost invariant = { λ room. (length room.colours.items ≡ MAX_SCREEN_SIDE)
+        × (length room.bytes.items ≡ 4 * MAX_SCREEN_SIDE) };
 }
 
 impl RowRoom {
     /// The only call of this crate that takes memory.
     pub fn new(alloc: Global) -> Result<RowRoom, AllocError> {
-        let colours = vec![in alloc; 0; 8192]?;
-        let bytes = vec![in alloc; 0; 32768]?;
+        let colours = vec![in alloc; 0; MAX_SCREEN_SIDE as usize]?;
+        let bytes = vec![in alloc; 0; 4 * MAX_SCREEN_SIDE as usize]?;
         Ok(RowRoom { colours, bytes })
     }
 }

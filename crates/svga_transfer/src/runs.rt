@@ -32,8 +32,10 @@ struct Site {
 /// The first row from row `y` on where a screen may show a pixel of the blit. Rows before it show none.
 pub(crate) fn next_row(screens: &Screens, blit: &Blit, y: i64) -> Option<i64>
     requires { unsigned_abs y ≤ 2 ^ 32 }
-    ensures found { IfSome result (λ row. (y ≤ℤ row) × (row <ℤ blit.now.rect.bottom) × AreBare (definitions_of screens.now.screens) blit.now y row) }
-    ensures none { IfNone result (AreBare (definitions_of screens.now.screens) blit.now y blit.now.rect.bottom) }
+    ensures found { IfSome result (λ row. (y ≤ℤ row) × (row <ℤ blit.now.rect.bottom)
+        × AreBare (definitions_of screens.now.screens) blit.now y row) }
+    ensures none { IfNone result (AreBare (definitions_of screens.now.screens) blit.now y
+        blit.now.rect.bottom) }
 {
     let bottom = i64::from(blit.rect.bottom);
     let mut row = bottom;
@@ -43,7 +45,8 @@ pub(crate) fn next_row(screens: &Screens, blit: &Blit, y: i64) -> Option<i64>
     if row < bottom { Some(row) } else { None }
 }
 
-/// The first row from row `y` on where screen `id` may show a pixel of the blit, or the blit's bottom if there is none.
+/// The first row from row `y` on where screen `id` may show a pixel of the blit, or the blit's bottom if
+/// there is none.
 fn first_row(screens: &Screens, blit: &Blit, id: u32, y: i64) -> i64
     requires { unsigned_abs y ≤ 2 ^ 32 }
     ensures from { result <ℤ blit.now.rect.bottom → y ≤ℤ result }
@@ -79,7 +82,8 @@ pub(crate) fn next_run(screens: &Screens, blit: &Blit, x: i64, y: i64) -> Option
     requires near_x { unsigned_abs x ≤ 2 ^ 32 }
     requires near_y { unsigned_abs y ≤ 2 ^ 32 }
     ensures found { IfSome result (IsNextRun (definitions_of screens.now.screens) blit.now x y) }
-    ensures none { IfNone result (IsBare (definitions_of screens.now.screens) blit.now y x blit.now.rect.right) }
+    ensures none { IfNone result (IsBare (definitions_of screens.now.screens) blit.now y x
+        blit.now.rect.right) }
 {
     let mut next = None;
     for id in 0..16 {
@@ -100,7 +104,8 @@ fn with_screen(
     requires near_x { unsigned_abs x ≤ 2 ^ 32 }
     requires near_y { unsigned_abs y ≤ 2 ^ 32 }
     requires next { IsNextOf (definitions_of screens.now.screens) blit.now 0 id x blit.now.rect.right y next }
-    ensures { IsNextOf (definitions_of screens.now.screens) blit.now 0 (id + 1) x blit.now.rect.right y result }
+    ensures { IsNextOf (definitions_of screens.now.screens) blit.now 0
+        (id + 1) x blit.now.rect.right y result }
 {
     let end = next_column(next, blit.rect.right);
     stretch(screens, blit, id, x, end, y).or(next)

@@ -29,8 +29,8 @@ pub struct Extent {
     pub height: u32,
 }
 
-/// Shows on the screens what the guest framebuffer has in this part of virtual coordinates, and names the areas that
-/// it paints. What lies past the framebuffer's edges stays.
+/// Shows on the screens what the guest framebuffer has in this part of virtual coordinates, and names the
+/// areas that it paints. What lies past the framebuffer's edges stays.
 pub fn update_screens<P: PageStore>(
     limits: Limits,
     regions: &Regions,
@@ -42,8 +42,14 @@ pub fn update_screens<P: PageStore>(
     requires limits { AreLimits limits }
     requires frame { regions.now.frame ≡ frame_page_count limits }
     requires there { HasPages (P.pages store.now) (frame_places regions.now.frame) }
-    ensures painted { screens.new ≡ record screens.old { screens = repainted_screens (λ id. update_colour (region_byte (P.pages store.now) (frame_places regions.now.frame)) limits extent.x extent.y extent.width extent.height) screens.old.screens } }
-    ensures areas { ArePainted (λ id. update_colour (region_byte (P.pages store.now) (frame_places regions.now.frame)) limits extent.x extent.y extent.width extent.height) (definitions_of screens.old.screens) result.items }
+    ensures painted { screens.new ≡ record screens.old {
+      screens = repainted_screens (λ id. update_colour
+          (region_byte (P.pages store.now) (frame_places regions.now.frame)) limits extent.x extent.y
+          extent.width extent.height) screens.old.screens;
+    } }
+    ensures areas { ArePainted (λ id. update_colour
+        (region_byte (P.pages store.now) (frame_places regions.now.frame)) limits extent.x extent.y
+        extent.width extent.height) (definitions_of screens.old.screens) result.items }
 {
     let gmrfb = frame_as_gmrfb(limits);
     let blit = update_as_blit(limits, extent);

@@ -1,4 +1,5 @@
 use Rattle.std.proofs.Common.{ap, subst, sym, ◌∙◌, length, replicate, false, arith}
+use Rattle.svga_cmd.specs.declared.constants.TheConstants.{REGION_IDS}
 use Rattle.svga.proofs.MappedLaws.{marked_mapped}
 use Rattle.svga.specs.Mapped.{AreMapped, AreMarked, in_first}
 use Rattle.svga_region.proofs.ChainLaws.{lent_whole}
@@ -17,4 +18,4 @@ returns c =
     (marked_mapped kept before c.mark_regions.new.mapped
     (c.deref_mut.ensures.value ∙ falses
     ∙ ap (λ l. replicate l.pages false) c.limits.ensures.limits) c.mark_regions.auto.mapped
-    (subst (λ rs. AreMarked (in_first rs 4096) before c.mark_regions.new.mapped) regions c.mark_regions.ensures))
+    (subst (λ rs. AreMarked (in_first rs REGION_IDS) before c.mark_regions.new.mapped) regions c.mark_regions.ensures))

@@ -1,8 +1,7 @@
 use Rattle.std.proofs.Common.{ℕ, List, ◌∷◌, [], ap, codes, sym, ◌∙◌}
 use Rattle.std.specs.Fmt.{decimal}
 use Rattle.svga.specs.ReplayTexts.{replay_end_text}
-use Rattle.svga_capture.specs.Replayed.{end_of}
-use Rattle.svga_capture.specs.declared.replaying.ReplayEnd.{ReplayEnd}
+use Rattle.svga_cmd.specs.declared.ending.ReplayEnd.{ReplayEnd}
 use Rattle.svga_text.proofs.PassingLaws.{by_result, Writes-same}
 use Rattle.svga_text.specs.Lines.{line, line_text}
 use Rattle.svga.proofs.replay.write_replay_end.Goals as goal
@@ -11,7 +10,7 @@ use Rattle.svga.proofs.replay.write_replay_end.Goals.{in-Whole, in-Refused, in-T
 pub returns : goal.returns
 returns g c =
     let wrote = by_result _ _ c.line.result c.line.ensures.ok c.line.ensures.fault in
-    let as_text : ReplayEnd → List ℕ = λ ending. replay_end_text (end_of ending) in
+    let as_text : ReplayEnd → List ℕ = replay_end_text in
     let same = Writes-same g.K.Sink.held g.K.Sink.faults c.args.sink.now c.line.new.sink c.line.result in
     elim c.match-ending.branch [
       | in-Whole w ↦ same (ap line_text w.line-is ∙ ap as_text (sym w.in-Whole.is)) wrote

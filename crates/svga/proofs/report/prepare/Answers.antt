@@ -1,6 +1,5 @@
 use Rattle.std.proofs.Common.{length, arith, ap, subst, ◌∙◌}
 use Rattle.svga.proofs.BytesLaws.{length-words_in}
-use Rattle.svga_decode.specs.Scans.{end_of}
 use Rattle.svga_model.specs.Endings.{IsEnding}
 use Rattle.svga.proofs.report.prepare.Goals as goal
 
@@ -16,8 +15,7 @@ returns c =
       record {
         words = words;
         few = omega (arith, ap length words, length-words_in c.args.bytes.now, c.requires);
-        decoder = c.in_ok-new.ensures {u = tt};
         fence = scanned.1.fence;
-        ending = record { of_words = end_of c.scan-scanned.result.ending; ending = subst (λ t. IsEnding t scanned.0 (end_of c.scan-scanned.result.ending)) same scanned.1.ending; of_bytes = c.ending_of.ensures };
+        ending = record { of_words = c.scan-scanned.result.ending; ending = subst (λ t. IsEnding t scanned.0 (c.scan-scanned.result.ending)) same scanned.1.ending; of_bytes = c.ending_of.ensures };
       },
     )

@@ -4,7 +4,6 @@ use Rattle.svga.specs.Prepared.{IsPrepared}
 use Rattle.svga.specs.Texts.{end_text, fence_text}
 use Rattle.svga.specs.declared.report.Report.{Report}
 use Rattle.svga_cmd.specs.declared.command.Command.{Command}
-use Rattle.svga_decode.specs.Scans.{end_of}
 use Rattle.svga_io.proofs.Chains.{Grows-then, GrowsByPrefix-first, GrowsByPrefix-then}
 use Rattle.svga_io.specs.Growing.{Grows}
 use Rattle.svga_model.specs.Endings.{IsFront, last_fence}
@@ -17,14 +16,14 @@ front_of bytes ws cs r prepared is = subst (λ t. IsFront t cs) (sym prepared.wo
 
 pub returns-in_err-list_commands : goal.returns-in_err-list_commands
 returns-in_err-list_commands g c = λ bytes cs prepared. at_err _ c.from_residual.result c.from_residual.ensures.0
-    (GrowsByPrefix-first (end_text (end_of c.args.report.now.ending)) (GrowsByPrefix-first (fence_text (last_fence cs))
+    (GrowsByPrefix-first (end_text c.args.report.now.ending) (GrowsByPrefix-first (fence_text (last_fence cs))
     (Lists-fault c.args.sink.now _ c.deref.result.now cs (front_of bytes c.deref.result.now cs c.args.report.now prepared c.deref.ensures.value) (c.in_err-list_commands.ensures {u = tt}))))
 
 pub returns-in_err-line : goal.returns-in_err-line
 returns-in_err-line g c = λ bytes cs prepared.
     let listed = Lists-ok c.args.sink.now _ c.deref.result.now cs (front_of bytes c.deref.result.now cs c.args.report.now prepared c.deref.ensures.value) (c.in_ok-list_commands.ensures {u = tt}) in
     at_err _ c.from_residual-in_err-line.result c.from_residual-in_err-line.ensures.0
-    (GrowsByPrefix-first (end_text (end_of c.args.report.now.ending)) (GrowsByPrefix-then listed (fault-same (ap fence_text prepared.fence) c.in_err-line.ensures.fault)))
+    (GrowsByPrefix-first (end_text c.args.report.now.ending) (GrowsByPrefix-then listed (fault-same (ap fence_text prepared.fence) c.in_err-line.ensures.fault)))
 
 pub returns : goal.returns
 returns g c = λ bytes cs prepared.

@@ -6,13 +6,12 @@ use Rattle.svga.specs.Telling.{Tells}
 use Rattle.svga.specs.Texts.{words_status, words_text}
 use Rattle.svga.specs.declared.form.Form.TheVariants.{Words}
 use Rattle.svga_cmd.specs.declared.command.Command.{Command}
-use Rattle.svga_decode.specs.Scans.{end_of}
-use Rattle.svga_model.specs.Endings.{End}
+use Rattle.svga_cmd.specs.declared.ending.Ending.{Ending}
 use Rattle.svga.proofs.report.write_report.Goals as goal
 
 -- the commands of the input and how it ends were told
 told : {K : Type 0} (held : K → Option (List ℕ)) (faults : K → ℕ) (before now : K) (bytes : List ℕ) (cs : List Command)
-    (end : End) (answer : ℕ) → IsEndingOfBytes bytes cs end
+    (end : Ending) (answer : ℕ) → IsEndingOfBytes bytes cs end
     → Tells held faults before now (words_text cs end) (words_status end) answer
     → TellsInput held faults before now Words bytes answer
 told held faults before now bytes cs end answer ending tells =
@@ -23,13 +22,13 @@ told held faults before now bytes cs end answer ending tells =
 pub returns-in-Ok-write : goal.returns-in-Ok-write
 returns-in-Ok-write g c =
     let (cs, prepared) = c.in-Ok.ensures in
-    let end = end_of c.in-Ok.report.ending in
+    let end = c.in-Ok.report.ending in
     told _ _ c.args.sink.now _ c.args.bytes.now cs end c.status_of-status.result prepared.ending
     (inl (c.status_of-status.ensures, c.in-Ok-write.ensures c.args.bytes.now cs prepared))
 
 pub returns : goal.returns
 returns g c =
     let (cs, prepared) = c.in-Ok.ensures in
-    let end = end_of c.in-Ok.report.ending in
+    let end = c.in-Ok.report.ending in
     told _ _ c.args.sink.now _ c.args.bytes.now cs end 5 prepared.ending
     (inr (refl, c.in-Err.ensures c.args.bytes.now cs prepared))

@@ -7,6 +7,6 @@ use Rattle.svga_capture.proofs.regions.judge_places.Given as goal
 
 abbrev pub invariant-loop-k : goal.invariant-loop-k
 invariant-loop-k l =
-    (first_flaw l.bytes (map_list (place_field l.bytes l.at) (range_with_len 0 l.count))
-    ≡ first_flaw l.bytes (map_list (place_field l.bytes l.at) (range_with_len l.k (l.count - l.k))))
-    × (l.at + 4 * l.k ≤ length l.bytes)
+    (first_flaw l.bytes (map_list (place_field l.bytes (l.region.at + 8)) (range_with_len 0 l.region.count))
+    ≡ first_flaw l.bytes (map_list (place_field l.bytes (l.region.at + 8)) (range_with_len l.k (l.region.count - l.k))))
+    × (l.region.at + 8 + 4 * l.k ≤ length l.bytes)

@@ -1,4 +1,4 @@
-use Rattle.svga_cmd.proofs.ReadingLaws.{same_command}
+use Rattle.svga_cmd.proofs.SpelledLaws.{same_command}
 use Rattle.svga_cmd.proofs.laws.unique_spelling.Goals as goal
 
 pub returns-clause-one_command : goal.returns-clause-one_command

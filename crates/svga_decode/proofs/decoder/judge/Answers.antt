@@ -1,5 +1,5 @@
 use Rattle.std.proofs.Common.{◌-◌, length, arith, sym, ◌∙◌}
-use Rattle.svga_cmd.specs.Reading.{command_in}
+use Rattle.svga_cmd.specs.Spelled.{command_in}
 use Rattle.svga_decode.proofs.decoder.judge.Goals as goal
 use Rattle.svga_model.proofs.GrammarBegun.{part_begun}
 use Rattle.svga_model.proofs.GrammarComplete.{complete_spells}

@@ -1,20 +1,21 @@
-use Rattle.std.proofs.Common.{arith, subst, sym, take}
-use Rattle.std.proofs.lemmas.List.{take_more}
-use Rattle.svga_decode.proofs.FeedLaws.{ready_live}
-use Rattle.svga_decode.proofs.ScanLaws.{nothing_read, refused_scan}
+use Rattle.std.proofs.Common.{◌≡◌, ℕ, List, refl, subst}
+use Rattle.svga_cmd.specs.declared.command.Command.{Command}
+use Rattle.svga_cmd.specs.declared.ending.Ending.{Ending}
+use Rattle.svga_decode.proofs.ScanLaws.{Counts, visited_counts}
 use Rattle.svga_decode.proofs.scanning.scan.Goals as goal
-use Rattle.svga_decode.specs.Scans.{IsRead, IsScan}
+use Rattle.svga_decode.specs.Scans.{AreCounted}
+use Rattle.svga_decode.specs.Visits.{IsVisited}
+use Rattle.svga_decode.specs.declared.scanning.Counted.{Counted}
 
-pub loop-i-init : goal.loop-i-init
-loop-i-init c = record { read = nothing_read c.args.decoder.now c.requires.ready; live = ready_live c.args.decoder.now c.requires.ready; few = omega arith }
+-- what is counted of the words of the slice
+of_slice : (given ws : List ℕ) (end : Ending) (w : Counted) (u : Unit {0}) → given ≡ ws → IsVisited Counts given (record { commands = 0; fence = 0; first = 0; end = 0 }) tt end w u
+    → (cs : List Command) × AreCounted ws cs w end
+of_slice given ws end w u is visited = subst (λ t. (cs : List Command) × AreCounted t cs w end) is (visited_counts given (record { commands = 0; fence = 0; first = 0; end = 0 }) tt end w u refl visited)
 
-pub returns-in-Err : goal.returns-in-Err
-returns-in-Err c = subst (λ s. IsScan c.args.words.now s c.advance.new.decoder) (sym c.scanned.ensures)
-    (refused_scan c.args.words.now c.loop-i.i c.loop-i.progress c.loop-i.decoder c.advance.new.decoder c.in-Err.cause (omega arith) c.loop-i.invariant.read c.in-Err.ensures.refused c.in-Err.ensures.left)
+pub leave-requires-clause-counted : goal.leave-requires-clause-counted
+leave-requires-clause-counted c = of_slice c.new.result.words.now c.args.words.now c.in-Ok.ending c.each_command.new.visitor c.each_command.new.on c.new.ensures (c.in-Ok.ensures {u = tt}).ended
 
-pub loop-i-preserved : goal.loop-i-preserved
-loop-i-preserved c = record {
-  read = subst (λ t. IsRead t c.in-Ok.next c.advance.new.decoder) (sym (take_more c.args.words.now c.loop-i.i 0 (omega arith))) (c.in-Ok.ensures.read (take c.loop-i.i c.args.words.now) c.loop-i.invariant.read);
-  live = c.in-Ok.ensures.live;
-  few = omega (arith, c.in-Ok.ensures.count, c.loop-i.invariant.few);
-}
+pub returns : goal.returns
+returns c =
+    let (cs, counted) = of_slice c.new.result.words.now c.args.words.now c.in-Ok.ending c.each_command.new.visitor c.each_command.new.on c.new.ensures (c.in-Ok.ensures {u = tt}).ended in
+    (cs, record { ending = counted.ending; commands = counted.commands; fence = counted.fence; decoder = c.leave.ensures cs counted })

@@ -3,6 +3,7 @@ use Rattle.svga_cmd.specs.declared.command.Command.TheVariants.{RemapGmr2}
 use Rattle.svga_cmd.specs.declared.remap.RemapData.TheVariants.{Ppn32, ViaGmr32}
 use Rattle.svga_model.specs.Acts.{Do}
 use Rattle.svga_model.specs.Faults.{shape_tests}
+use Rattle.svga_model.specs.PointedNumbers.{pointed_by}
 use Rattle.svga_model.specs.Standing.{least_standing}
 use Rattle.svga_model.specs.States.{State, shape_of}
 use Rattle.svga_model.specs.Steps.{step}
@@ -10,7 +11,7 @@ use Rattle.svga_model.specs.Regions.{region_places}
 use Rattle.svga_shape.specs.ShapeSet.{shape_in}
 use Rattle.svga_transfer.specs.Reach.{HasByte, HasPages}
 use Rattle.svga_machine.proofs.ViaBytes.{via32_there}
-use Rattle.svga_machine.proofs.ViaLaws.{via32_fault, via32_step, words}
+use Rattle.svga_machine.proofs.ViaLaws.{via32_fault, via32_step, via_range, words}
 use Rattle.svga_machine.proofs.ViaShapes.{front_length, on_ok_map, words_are}
 use Rattle.svga_machine.proofs.remap.remap_by_words.Given.{Over}
 use Rattle.svga_machine.proofs.remap.remap_by_words.Goals as goal
@@ -34,17 +35,24 @@ read g c s same there = c.read_words.ensures
     ∙ words_are s c.args.shape.now c.regions.result.now (g.P.PageStore.pages c.args.store.now) c.args.pointer (c.args.pages) _ same c.regions.ensures.valid c.regions.ensures.regions there
     (front_length c.args.numbers.now (c.args.pages) (omega (arith, c.requires.few, c.requires.room)))
 
-pub returns-clause-fault : goal.returns-clause-fault
-returns-clause-fault g c = λ s same there.
-    c.remap_named.ensures.fault
-    ∙ ap (λ ws. least_standing (shape_tests (shape_in c.args.shape.now) (RemapGmr2 c.args.region c.args.offset c.args.pages (Ppn32 ws)))) (read g c s same there)
-    ∙ ap (λ σ. least_standing (shape_tests σ (RemapGmr2 c.args.region c.args.offset c.args.pages (Ppn32 (words s c.args.pointer (c.args.pages)))))) (sym same)
-    ∙ sym (via32_fault s c.args.region c.args.offset c.args.pages c.args.pointer
-    (subst (λ σ. least_standing (shape_tests σ (RemapGmr2 c.args.region c.args.offset c.args.pages (ViaGmr32 c.args.pointer))) ≡ None) (sym same) c.requires.admitted))
+pub remap_read-requires-clause-admitted : goal.remap_read-requires-clause-admitted
+remap_read-requires-clause-admitted g c = via_range (shape_in c.args.shape.now) c.args.region c.args.offset c.args.pages
+    (pointed_by 1 c.args.pointer) c.requires.admitted
 
-pub returns-clause-ok : goal.returns-clause-ok
-returns-clause-ok g c = on_ok_map _ _ c.remap_named.result
-    (λ stepped s same there. ap (λ t. shape_of t.kept) (via32_step s c.args.region c.args.offset c.args.pages c.args.pointer)
-    ∙ ap (λ ws. shape_of (step s (Do (RemapGmr2 c.args.region c.args.offset c.args.pages (Ppn32 ws)))).kept) (sym (read g c s same there))
-    ∙ stepped s same)
-    c.remap_named.ensures.ok
+pub returns-clause-remap : goal.returns-clause-remap
+returns-clause-remap g c = record {
+  fault = λ s same there.
+      c.remap_read.ensures.fault
+      ∙ ap (λ ws. least_standing (shape_tests (shape_in c.args.shape.now) (RemapGmr2 c.args.region c.args.offset c.args.pages (Ppn32 ws)))) (read g c s same there)
+      ∙ ap (λ σ. least_standing (shape_tests σ (RemapGmr2 c.args.region c.args.offset c.args.pages (Ppn32 (words s c.args.pointer (c.args.pages)))))) (sym same)
+      ∙ sym (via32_fault s c.args.region c.args.offset c.args.pages c.args.pointer
+      (subst (λ σ. least_standing (shape_tests σ (RemapGmr2 c.args.region c.args.offset c.args.pages (ViaGmr32 c.args.pointer))) ≡ None) (sym same) c.requires.admitted));
+  ok = on_ok_map _ _ c.remap_read.result
+      (λ stepped s same there. ap (λ t. shape_of t.kept) (via32_step s c.args.region c.args.offset c.args.pages c.args.pointer)
+      ∙ ap (λ ws. shape_of (step s (Do (RemapGmr2 c.args.region c.args.offset c.args.pages (Ppn32 ws)))).kept) (sym (read g c s same there))
+      ∙ stepped.step s same)
+      c.remap_read.ensures.ok;
+  err = c.remap_read.ensures.err;
+  chain = c.remap_read.ensures.chain;
+  valid = c.remap_read.ensures.valid;
+}

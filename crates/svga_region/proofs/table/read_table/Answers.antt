@@ -6,13 +6,13 @@ use Rattle.svga_region.proofs.PutLaws.{kept_pages-set}
 use Rattle.svga_region.proofs.TableLaws.{fails_on_page, fails_in_runs, fails_run, fails_link, fails_at_link, ends, goes}
 use Rattle.svga_region.proofs.table.read_table.Goals as goal
 
-pub returns-then-taken-eq512-clause-answer : goal.returns-then-taken-eq512-clause-answer
-returns-then-taken-eq512-clause-answer c = λ p tables wants same.
-    fails_on_page c.args.guest tables p (chain_of c.args.runs.now c.args.reading) c.args.bytes.now c.take_runs-taken.result wants same c.requires.few c.take_runs-taken.ensures.good c.if-taken-eq512.true c.take_runs-taken.ensures.fits
+pub returns-then-taken-eq-TABLE_PAIRS-clause-answer : goal.returns-then-taken-eq-TABLE_PAIRS-clause-answer
+returns-then-taken-eq-TABLE_PAIRS-clause-answer c = λ p tables wants same.
+    fails_on_page c.args.guest tables p (chain_of c.args.runs.now c.args.reading) c.args.bytes.now c.take_runs-taken.result wants same c.requires.few c.take_runs-taken.ensures.good c.if-taken-eq-TABLE_PAIRS.true c.take_runs-taken.ensures.fits
 
-pub returns-then-count-eq4096-clause-answer : goal.returns-then-count-eq4096-clause-answer
-returns-then-count-eq4096-clause-answer c = λ p tables wants same.
-    fails_in_runs c.args.guest tables p (chain_of c.args.runs.now c.args.reading) c.args.bytes.now c.take_runs-taken.result wants same c.requires.few c.take_runs-taken.ensures.good (omega arith) c.if-count-eq4096.true
+pub returns-then-count-eq-MAX_DESCRIPTORS-clause-answer : goal.returns-then-count-eq-MAX_DESCRIPTORS-clause-answer
+returns-then-count-eq-MAX_DESCRIPTORS-clause-answer c = λ p tables wants same.
+    fails_in_runs c.args.guest tables p (chain_of c.args.runs.now c.args.reading) c.args.bytes.now c.take_runs-taken.result wants same c.requires.few c.take_runs-taken.ensures.good (omega arith) c.if-count-eq-MAX_DESCRIPTORS.true
 
 pub returns-then-last-gt0-clause-answer : goal.returns-then-last-gt0-clause-answer
 returns-then-last-gt0-clause-answer c = λ p tables wants same.
@@ -41,12 +41,12 @@ returns-then-last-guest-clause-answer c = λ p tables wants same.
     fails_link c.args.guest tables p (chain_of c.args.runs.now c.args.reading) c.args.bytes.now c.take_runs-taken.result wants same c.requires.few c.take_runs-taken.ensures.good
     (as_descriptor c.read_descriptor-last.result) c.read_descriptor-last.ensures short room (omega arith) (omega arith) c.if-last-guest.true
 
-pub returns-then-count-eq4095-clause-answer : goal.returns-then-count-eq4095-clause-answer
-returns-then-count-eq4095-clause-answer c = λ p tables wants same.
+pub returns-then-count-eq-MAX_DESCRIPTORS-2-clause-answer : goal.returns-then-count-eq-MAX_DESCRIPTORS-2-clause-answer
+returns-then-count-eq-MAX_DESCRIPTORS-2-clause-answer c = λ p tables wants same.
     let room : c.args.reading.count + c.take_runs-taken.result < 4096 = omega arith in
     let short : c.take_runs-taken.result < 512 = omega arith in
     fails_at_link c.args.guest tables p (chain_of c.args.runs.now c.args.reading) c.args.bytes.now c.take_runs-taken.result wants same c.requires.few c.take_runs-taken.ensures.good
-    (as_descriptor c.read_descriptor-last.result) c.read_descriptor-last.ensures short room (omega arith) (omega arith) c.if-last-guest.false c.if-count-eq4095.true
+    (as_descriptor c.read_descriptor-last.result) c.read_descriptor-last.ensures short room (omega arith) (omega arith) c.if-last-guest.false (omega arith)
 
 pub returns-clause-answer : goal.returns-clause-answer
 returns-clause-answer c = λ p tables wants same.

@@ -1,5 +1,5 @@
 -- The command in hand is the next one, and none is left out.
-use Rattle.svga_ring.proofs.CoreLoads.{all_done, in_hand}
+use Rattle.svga_ring.proofs.Words.Told.{all_done, in_hand}
 use Rattle.svga_ring.proofs.core_loads.taken_in_order.Goals as goal
 
 pub returns-clause-in_hand : goal.returns-clause-in_hand

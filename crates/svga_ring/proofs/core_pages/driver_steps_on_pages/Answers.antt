@@ -1,21 +1,15 @@
--- The driver's steps on pages keep all that is sound, and a page that is taken is what running all acts leaves.
-use Rattle.svga_ring.proofs.CoreGives.{gives_run, keeps_give, keeps_slot_home, keeps_slot_out, keeps_take, slot_empty}
+-- What lies in the slot, by its lemma.
+use Rattle.svga_ring.proofs.Pages.DriverSteps.{gives_run, slot_empty, slot_empty_known, taken_known}
 use Rattle.svga_ring.proofs.core_pages.driver_steps_on_pages.Goals as goal
-
-pub returns-clause-give : goal.returns-clause-give
-returns-clause-give c = keeps_give
-
-pub returns-clause-take : goal.returns-clause-take
-returns-clause-take c = keeps_take
-
-pub returns-clause-slot_out : goal.returns-clause-slot_out
-returns-clause-slot_out c = keeps_slot_out
-
-pub returns-clause-slot_home : goal.returns-clause-slot_home
-returns-clause-slot_home c = keeps_slot_home
 
 pub returns-clause-taken : goal.returns-clause-taken
 returns-clause-taken c = gives_run
 
+pub returns-clause-taken_by_view : goal.returns-clause-taken_by_view
+returns-clause-taken_by_view c = taken_known
+
 pub returns-clause-empty : goal.returns-clause-empty
 returns-clause-empty c = slot_empty
+
+pub returns-clause-empty_by_view : goal.returns-clause-empty_by_view
+returns-clause-empty_by_view c = slot_empty_known

@@ -1,5 +1,5 @@
 -- A store of the reply behind a chain that is served.
-use Rattle.svga_ring.proofs.CoreReplies.{asked_admits, kept_reply, known_admits, settled_reply}
+use Rattle.svga_ring.proofs.Requests.Replies.{asked_admits, kept_reply, known_admits, settled_reply}
 use Rattle.svga_ring.proofs.core_requests.step_on_reply.Goals as goal
 
 pub returns-clause-settled : goal.returns-clause-settled

@@ -1,9 +1,6 @@
 -- A store of STOP behind a command that is served.
-use Rattle.svga_ring.proofs.CoreStop.{keeps_stop, kept_step, known_admits, read_admits, settled_step}
+use Rattle.svga_ring.proofs.Steps.Stop.{kept_step, known_admits, read_admits, settled_step}
 use Rattle.svga_ring.proofs.core_stop.step_on_stop.Goals as goal
-
-pub returns-clause-store_stop : goal.returns-clause-store_stop
-returns-clause-store_stop c = keeps_stop
 
 pub returns-clause-settled : goal.returns-clause-settled
 returns-clause-settled c = settled_step

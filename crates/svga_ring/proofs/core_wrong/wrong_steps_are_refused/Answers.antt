@@ -1,8 +1,8 @@
 -- The sentence of a sound state that the step breaks.
 use Rattle.std.proofs.Common.{◌≤◌, length, arith}
-use Rattle.svga_ring.proofs.CoreFences.{stored_is_read}
-use Rattle.svga_ring.proofs.CoreSplit.{well_formed}
-use Rattle.svga_ring.proofs.CoreWrong.{not_in_place, read_whole}
+use Rattle.svga_ring.proofs.Words.FenceOrder.{stored_is_read}
+use Rattle.svga_ring.proofs.Words.NextCommand.{well_formed}
+use Rattle.svga_ring.proofs.Wrong.OnWords.{not_in_ring, read_whole}
 use Rattle.svga_ring.proofs.core_wrong.wrong_steps_are_refused.Goals as goal
 
 pub returns-clause-past_max : goal.returns-clause-past_max
@@ -10,7 +10,8 @@ returns-clause-past_max c = λ k core word sound past other left.
     let order = sound.order in
     let behind : length core.device.taken ≤ length core.driver.sent =
     omega (arith, order.read_known, order.known_sent) in
-    not_in_place core.driver sound.session.one_layout sound.session.layout sound.place behind past other left.place
+    not_in_ring core.driver sound.session.one_layout sound.session.layout sound.ring behind past other
+    left.ring
 
 pub returns-clause-early_start : goal.returns-clause-early_start
 returns-clause-early_start c = λ k core claimed sound none left.

@@ -19,5 +19,9 @@ returns-then-next-bytes-clause-pieces c = λ sent taken counts.
 pub returns-else-next-bytes-clause-pieces : goal.returns-else-next-bytes-clause-pieces
 returns-else-next-bytes-clause-pieces c = λ sent taken counts. (
   omega (arith, c.free-free.ensures.dwords sent taken counts),
-  (λ i within. omega (arith, address_within c.args.geometry.min (dwords_of c.args.geometry) sent (c.args.bytes / 4) i (omega arith) within)),
+  (λ i within. omega (
+    arith,
+    address_within c.args.geometry.min (dwords_of c.args.geometry) sent
+        (c.args.bytes / 4) i (omega arith) within,
+  )),
 )

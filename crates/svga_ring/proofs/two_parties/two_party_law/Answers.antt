@@ -1,7 +1,7 @@
 -- The law over every list of steps.
 use Rattle.std.proofs.Common.{subst, sym}
-use Rattle.svga_ring.proofs.CoreClosing.{all_taken_kept, all_taken_page}
-use Rattle.svga_ring.proofs.CoreEvents.{list_sound}
+use Rattle.svga_ring.proofs.Steps.Joining.{all_taken_kept, all_taken_page}
+use Rattle.svga_ring.proofs.Steps.Each.{list_sound}
 use Rattle.svga_ring.specs.Sound.{IsSound}
 use Rattle.svga_ring.proofs.two_parties.two_party_law.Goals as goal
 
@@ -13,7 +13,9 @@ returns-clause-taken c = λ k events core can is.
     let sound = subst (IsSound k) (sym is) (list_sound k events can) in sound.of_words.order.taken_whole
 
 pub returns-clause-kept : goal.returns-clause-kept
-returns-clause-kept c = λ k events core can is. all_taken_kept k core (subst (IsSound k) (sym is) (list_sound k events can))
+returns-clause-kept c = λ k events core can is.
+    all_taken_kept k core (subst (IsSound k) (sym is) (list_sound k events can))
 
 pub returns-clause-pages : goal.returns-clause-pages
-returns-clause-pages c = λ k events core key can is. all_taken_page k core key (subst (IsSound k) (sym is) (list_sound k events can))
+returns-clause-pages c = λ k events core key can is.
+    all_taken_page k core key (subst (IsSound k) (sym is) (list_sound k events can))

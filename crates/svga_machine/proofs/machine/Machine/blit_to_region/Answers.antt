@@ -12,8 +12,8 @@ use Rattle.svga_machine.proofs.machine.Machine.blit_to_region.Goals as goal
 
 pub blit_to_region-requires-clause-mapped : goal.blit_to_region-requires-clause-mapped
 blit_to_region-requires-clause-mapped g c =
-    let old : Kept = kept_of c.self.inside.limits c.self.inside.shape c.self.inside.gmrfb c.self.inside.screens c.self.inside.fence in
+    let old : Kept = kept_of c.self.inside.shape c.self.inside.screens c.self.inside.fence in
     let gmrfb = c.in-Some.gmrfb in
     subst (λ regions. AreMapped (definitions_of old.screens) gmrfb c.args.blit.now (region_places regions.frame regions.regions gmrfb.region)) (sym c.regions.ensures.regions)
     (subst (λ frame. AreMapped (definitions_of old.screens) gmrfb c.args.blit.now (region_places frame old.regions gmrfb.region)) (sym (frame_is old c.self.inside.shape c.self.inside.screens c.self.invariant.0))
-    (blit_mapped old gmrfb c.args.blit.now c.in-Some.is (ap (λ m. least_standing (blit_tests (shape_of m.kept) c.args.blit.now)) c.self.view_is ∙ c.requires.admitted)))
+    (blit_mapped old gmrfb c.args.blit.now (sym c.gmrfb.ensures ∙ c.in-Some.is) (ap (λ m. least_standing (blit_tests (shape_of m.kept) c.args.blit.now)) c.self.view_is ∙ c.requires.admitted)))

@@ -1,12 +1,24 @@
-use Rattle.std.proofs.Common.{subst, sym}
-use Rattle.svga_region.specs.Conditions.{IsWhole}
-use Rattle.svga_machine.proofs.ChainParts.{finished}
-use Rattle.svga_machine.proofs.PartsLaws.{chain_parts}
+-- The regions of the machine are those of its shape.
+use Rattle.std.proofs.Common.{ap, subst, ◌∙◌}
+use Rattle.svga_region.specs.ChainCalls.{FinishesChain}
+use Rattle.svga_region.specs.RegionSet.{RegionSet}
+use Rattle.svga_machine.specs.MachineSet.{regions_in}
+use Rattle.svga_machine.proofs.PartsLaws.{chain_kept, chain_parts, regions_are}
 use Rattle.svga_machine.proofs.machine.Machine.chain_finish.Goals as goal
 
 pub invariant_of-self : goal.invariant_of-self
 invariant_of-self c = (
-  chain_parts c.self.inside.limits c.self.inside.shape c.chain_finish.new.self c.self.inside.gmrfb c.self.inside.screens c.self.inside.fence c.self.invariant.0
-      (finished c.self.inside.shape c.chain_finish.new.self c.chain_finish.result (subst (λ m. IsWhole m.chain) (sym c.self.view_is) c.requires) c.chain_finish.ensures.ok c.chain_finish.ensures.err),
+  chain_parts c.self.inside.shape c.chain_finish.new.self c.self.inside.screens c.self.inside.fence c.self.invariant.0 c.chain_finish.ensures.kept c.chain_finish.ensures.valid,
   c.self.invariant.1,
 )
+
+pub returns-clause-chain : goal.returns-clause-chain
+returns-clause-chain c =
+    let P : RegionSet × RegionSet → Type 0 = λ p. let old = p.0 in let new = p.1 in FinishesChain old c.chain_finish.result new in
+    let new = chain_parts c.self.inside.shape c.chain_finish.new.self c.self.inside.screens c.self.inside.fence c.self.invariant.0 c.chain_finish.ensures.kept c.chain_finish.ensures.valid in
+    let olds = regions_are c.self.inside.shape c.self.inside.screens c.self.inside.fence c.self.invariant.0 ∙ ap regions_in c.self.view_is in
+    let news = regions_are c.chain_finish.new.self c.self.inside.screens c.self.inside.fence new in
+    subst P (λ i. (olds i, news i)) c.chain_finish.ensures.chain
+
+pub returns-clause-kept : goal.returns-clause-kept
+returns-clause-kept c = chain_kept c.self.inside.shape c.chain_finish.new.self c.self.inside.screens c.self.inside.fence c.self.invariant.0 c.chain_finish.ensures.kept c.chain_finish.ensures.valid c.args.self.now c.self.view_is

@@ -1,13 +1,24 @@
-use Rattle.std.proofs.Common.{ap, ◌∙◌}
-use Rattle.svga_model.specs.Standing.{first_standing}
-use Rattle.svga_model.specs.Walks.{start_tests}
-use Rattle.svga_machine.specs.MachineSet.{kept_of}
-use Rattle.svga_machine.proofs.PartsLaws.{guest_is}
+-- The regions of the machine are those of its shape.
+use Rattle.std.proofs.Common.{ap, subst, ◌∙◌}
+use Rattle.svga_region.specs.ChainCalls.{StartsChain}
+use Rattle.svga_region.specs.RegionSet.{RegionSet}
+use Rattle.svga_machine.specs.MachineSet.{regions_in}
+use Rattle.svga_machine.proofs.PartsLaws.{chain_kept, chain_parts, regions_are}
 use Rattle.svga_machine.proofs.machine.Machine.chain_start.Goals as goal
 
-pub returns-clause-fault : goal.returns-clause-fault
-returns-clause-fault c =
-    c.chain_start.ensures.fault
-    ∙ ap (λ guest. first_standing (start_tests guest c.args.id c.args.first))
-    (guest_is (kept_of c.self.inside.limits c.self.inside.shape c.self.inside.gmrfb c.self.inside.screens c.self.inside.fence) c.self.inside.shape c.self.inside.screens c.self.invariant.0
-    ∙ ap (λ m. m.kept.limits.pages) c.self.view_is)
+pub invariant_of-self : goal.invariant_of-self
+invariant_of-self c = (
+  chain_parts c.self.inside.shape c.chain_start.new.self c.self.inside.screens c.self.inside.fence c.self.invariant.0 c.chain_start.ensures.kept c.chain_start.ensures.valid,
+  c.self.invariant.1,
+)
+
+pub returns-clause-chain : goal.returns-clause-chain
+returns-clause-chain c =
+    let P : RegionSet × RegionSet → Type 0 = λ p. let old = p.0 in let new = p.1 in StartsChain old c.args.id c.args.first c.chain_start.result new in
+    let new = chain_parts c.self.inside.shape c.chain_start.new.self c.self.inside.screens c.self.inside.fence c.self.invariant.0 c.chain_start.ensures.kept c.chain_start.ensures.valid in
+    let olds = regions_are c.self.inside.shape c.self.inside.screens c.self.inside.fence c.self.invariant.0 ∙ ap regions_in c.self.view_is in
+    let news = regions_are c.chain_start.new.self c.self.inside.screens c.self.inside.fence new in
+    subst P (λ i. (olds i, news i)) c.chain_start.ensures.chain
+
+pub returns-clause-kept : goal.returns-clause-kept
+returns-clause-kept c = chain_kept c.self.inside.shape c.chain_start.new.self c.self.inside.screens c.self.inside.fence c.self.invariant.0 c.chain_start.ensures.kept c.chain_start.ensures.valid c.args.self.now c.self.view_is

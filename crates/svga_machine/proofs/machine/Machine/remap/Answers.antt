@@ -14,7 +14,7 @@ use Rattle.svga_machine.proofs.machine.Machine.remap.Goals as goal
 
 pub remap-requires-clause-there : goal.remap-requires-clause-there
 remap-requires-clause-there g c =
-    let old : Kept = kept_of c.self.inside.limits c.self.inside.shape c.self.inside.gmrfb c.self.inside.screens c.self.inside.fence in
+    let old : Kept = kept_of c.self.inside.shape c.self.inside.screens c.self.inside.fence in
     let m = g.P.PageStore.pages c.args.store.now in
     let entries = entries_of c.args.entries in
     subst (λ frame. HasPointed frame c.self.inside.shape.regions.regions m (pointed entries)) (sym (frame_is old c.self.inside.shape c.self.inside.screens c.self.invariant.0))
@@ -23,10 +23,10 @@ remap-requires-clause-there g c =
 
 pub invariant_of-self : goal.invariant_of-self
 invariant_of-self g c =
-    let old : Kept = kept_of c.self.inside.limits c.self.inside.shape c.self.inside.gmrfb c.self.inside.screens c.self.inside.fence in
+    let old : Kept = kept_of c.self.inside.shape c.self.inside.screens c.self.inside.fence in
     let s : State = record { kept = old; memory = g.P.PageStore.pages c.args.store.now } in (
-      remap_parts s c.self.inside.limits c.self.inside.shape c.remap.new.shape c.self.inside.gmrfb c.self.inside.screens c.self.inside.fence c.args.region c.args.offset c.args.pages (entries_of c.args.entries)
-          c.remap.result refl c.self.invariant.0 c.remap.ensures.valid
-          (on_ok_map _ _ c.remap.result (λ stepped. stepped s (sym c.self.invariant.0.shape) refl) c.remap.ensures.ok) c.remap.ensures.err,
+      remap_parts s c.self.inside.shape c.remap.new.shape c.self.inside.screens c.self.inside.fence c.args.region c.args.offset c.args.pages (entries_of c.args.entries)
+          c.remap.result refl c.self.invariant.0 c.remap.ensures.remap.valid
+          (on_ok_map _ _ c.remap.result (λ stepped. stepped s (sym c.self.invariant.0.shape) refl) c.remap.ensures.remap.ok) c.remap.ensures.remap.err,
       (let room = c.remap.ensures.room in let value = c.deref_mut.ensures.value in let len = c.deref_mut.ensures.len in let items = c.self.invariant.1 in let fits = c.self.inside.numbers.ok.0 in grind (arith, common_steps)),
     )

@@ -10,10 +10,10 @@ use Rattle.svga_machine.proofs.machine.Machine.update.Goals as goal
 
 pub invariant_of-self : goal.invariant_of-self
 invariant_of-self g c =
-    let old : Kept = kept_of c.self.inside.limits c.self.inside.shape c.self.inside.gmrfb c.self.inside.screens c.self.inside.fence in
+    let old : Kept = kept_of c.self.inside.shape c.self.inside.screens c.self.inside.fence in
     let bytes = region_byte (g.P.PageStore.pages c.args.store.now) (frame_places c.regions.result.now.frame) in
-    let colour : ℕ → ScreenDef → ℕ → ℕ → Option ℕ = λ id. update_colour bytes c.self.inside.limits c.args.extent.x c.args.extent.y c.args.extent.width c.args.extent.height in (
-      new_parts (record old { screens = repainted_screens colour old.screens }) old c.self.inside.limits c.self.inside.shape c.self.inside.shape c.self.inside.gmrfb c.update_screens.new.screens c.self.inside.screens c.self.inside.fence
+    let colour : ℕ → ScreenDef → ℕ → ℕ → Option ℕ = λ id. update_colour bytes c.limits.result c.args.extent.x c.args.extent.y c.args.extent.width c.args.extent.height in (
+      new_parts (record old { screens = repainted_screens colour old.screens }) old c.self.inside.shape c.self.inside.shape c.update_screens.new.screens c.self.inside.screens c.self.inside.fence
           c.self.invariant.0 refl c.self.invariant.0.valid (ap (λ s. s.budget) c.update_screens.ensures.painted)
           (repainted_new old c.self.inside.shape c.self.inside.screens c.update_screens.new.screens colour c.self.invariant.0 c.regions.ensures.definitions c.update_screens.ensures.painted),
       c.self.invariant.1,

@@ -5,9 +5,9 @@ use Rattle.svga_region.specs.Kept.{regions_of}
 use Rattle.svga_region.proofs.PlaceLaws.{length-frame_places, places_of-frame, places_of-small, slot_is, read_flag}
 use Rattle.svga_region.proofs.regions.Regions.length.Goals as goal
 
-pub returns-then-id-eq4294967294 : goal.returns-then-id-eq4294967294
-returns-then-id-eq4294967294 c =
-    ap Some (sym (length-frame_places c.self.inside.frame)) ∙ ap (option_map length) (sym (places_of-frame c.self.inside.frame (regions_of c.self.inside.defined.items c.self.inside.lists.lists) c.args.id c.if-id-eq4294967294.true))
+pub returns-then-id-eq-SVGA_GMR_FRAMEBUFFER : goal.returns-then-id-eq-SVGA_GMR_FRAMEBUFFER
+returns-then-id-eq-SVGA_GMR_FRAMEBUFFER c =
+    ap Some (sym (length-frame_places c.self.inside.frame)) ∙ ap (option_map length) (sym (places_of-frame c.self.inside.frame (regions_of c.self.inside.defined.items c.self.inside.lists.lists) c.args.id c.if-id-eq-SVGA_GMR_FRAMEBUFFER.true))
     ∙ ap (λ r. option_map length (places_of r.frame r.regions c.args.id)) c.self.view_is
 
 pub returns-then-not-index : goal.returns-then-not-index

@@ -8,16 +8,16 @@ use Rattle.svga_region.proofs.regions.Regions.locate.Goals as goal
 
 pub returns-then-page-self-clause-fault : goal.returns-then-page-self-clause-fault
 returns-then-page-self-clause-fault c =
-    sym (byte_tests-frame c.self.inside.frame (regions_of c.self.inside.defined.items c.self.inside.lists.lists) c.args.id c.args.byte c.if-id-eq4294967294.true ∙ frame_mapped c.self.inside.frame c.args.byte c.if-page-self.true)
+    sym (byte_tests-frame c.self.inside.frame (regions_of c.self.inside.defined.items c.self.inside.lists.lists) c.args.id c.args.byte c.if-id-eq-SVGA_GMR_FRAMEBUFFER.true ∙ frame_mapped c.self.inside.frame c.args.byte c.if-page-self.true)
     ∙ ap (λ r. first_standing (byte_tests r.frame r.regions c.args.id c.args.byte)) c.self.view_is
 
 pub returns-then-page-self-clause-located : goal.returns-then-page-self-clause-located
 returns-then-page-self-clause-located c = sym (ap (λ r. located r.frame r.regions c.args.id c.args.byte) c.self.view_is)
-    ∙ located-frame c.self.inside.frame (regions_of c.self.inside.defined.items c.self.inside.lists.lists) c.args.id c.args.byte c.if-id-eq4294967294.true c.if-page-self.true
+    ∙ located-frame c.self.inside.frame (regions_of c.self.inside.defined.items c.self.inside.lists.lists) c.args.id c.args.byte c.if-id-eq-SVGA_GMR_FRAMEBUFFER.true c.if-page-self.true
 
 pub returns-else-page-self-clause-fault : goal.returns-else-page-self-clause-fault
 returns-else-page-self-clause-fault c =
-    sym (byte_tests-frame c.self.inside.frame (regions_of c.self.inside.defined.items c.self.inside.lists.lists) c.args.id c.args.byte c.if-id-eq4294967294.true ∙ frame_beyond c.self.inside.frame c.args.byte c.if-page-self.false)
+    sym (byte_tests-frame c.self.inside.frame (regions_of c.self.inside.defined.items c.self.inside.lists.lists) c.args.id c.args.byte c.if-id-eq-SVGA_GMR_FRAMEBUFFER.true ∙ frame_beyond c.self.inside.frame c.args.byte c.if-page-self.false)
     ∙ ap (λ r. first_standing (byte_tests r.frame r.regions c.args.id c.args.byte)) c.self.view_is
 
 pub returns-then-not-index-clause-fault : goal.returns-then-not-index-clause-fault

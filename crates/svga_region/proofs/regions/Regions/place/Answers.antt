@@ -10,20 +10,20 @@ pub bounds-list-k : goal.bounds-list-k
 bounds-list-k c =
     let P : RegionSet → Type 0 = λ r. HasPlace (places_of r.frame r.regions c.args.id) c.args.k in
     let has = subst P (sym c.self.view_is) c.requires in
-    let small = place_id c.self.inside.frame (regions_of c.self.inside.defined.items c.self.inside.lists.lists) c.args.id c.args.k c.if-id-eq4294967294.false has in
+    let small = place_id c.self.inside.frame (regions_of c.self.inside.defined.items c.self.inside.lists.lists) c.args.id c.args.k c.if-id-eq-SVGA_GMR_FRAMEBUFFER.false has in
     omega (arith, place_below c.self.inside.frame c.self.inside.defined.items c.self.inside.lists.lists c.args.id c.args.k small has, ap length c.list.ensures)
 
-pub returns-then-id-eq4294967294 : goal.returns-then-id-eq4294967294
-returns-then-id-eq4294967294 c =
+pub returns-then-id-eq-SVGA_GMR_FRAMEBUFFER : goal.returns-then-id-eq-SVGA_GMR_FRAMEBUFFER
+returns-then-id-eq-SVGA_GMR_FRAMEBUFFER c =
     let P : RegionSet → Type 0 = λ r. HasPlace (places_of r.frame r.regions c.args.id) c.args.k in
-    place-frame c.self.inside.frame (regions_of c.self.inside.defined.items c.self.inside.lists.lists) c.args.id c.args.k c.if-id-eq4294967294.true (subst P (sym c.self.view_is) c.requires)
+    place-frame c.self.inside.frame (regions_of c.self.inside.defined.items c.self.inside.lists.lists) c.args.id c.args.k c.if-id-eq-SVGA_GMR_FRAMEBUFFER.true (subst P (sym c.self.view_is) c.requires)
     ∙ ap (λ r. slice_index_or (unwrap_or (places_of r.frame r.regions c.args.id) []) c.args.k None) c.self.view_is
 
-pub returns-else-id-eq4294967294 : goal.returns-else-id-eq4294967294
-returns-else-id-eq4294967294 c =
+pub returns-else-id-eq-SVGA_GMR_FRAMEBUFFER : goal.returns-else-id-eq-SVGA_GMR_FRAMEBUFFER
+returns-else-id-eq-SVGA_GMR_FRAMEBUFFER c =
     let P : RegionSet → Type 0 = λ r. HasPlace (places_of r.frame r.regions c.args.id) c.args.k in
     let has = subst P (sym c.self.view_is) c.requires in
-    let small = place_id c.self.inside.frame (regions_of c.self.inside.defined.items c.self.inside.lists.lists) c.args.id c.args.k c.if-id-eq4294967294.false has in
+    let small = place_id c.self.inside.frame (regions_of c.self.inside.defined.items c.self.inside.lists.lists) c.args.id c.args.k c.if-id-eq-SVGA_GMR_FRAMEBUFFER.false has in
     ap (λ xs. slice_index_or xs c.args.k None) c.list.ensures
     ∙ place-small c.self.inside.frame c.self.inside.defined.items c.self.inside.lists.lists c.args.id c.args.k small has
     ∙ ap (λ r. slice_index_or (unwrap_or (places_of r.frame r.regions c.args.id) []) c.args.k None) c.self.view_is

@@ -18,3 +18,11 @@ returns-in-CaptureByte-clause-ok g c = Writes-ok g.K.Sink.held g.K.Sink.faults _
 pub returns-in-CaptureByte-clause-fault : goal.returns-in-CaptureByte-clause-fault
 returns-in-CaptureByte-clause-fault g c = Writes-fault g.K.Sink.held g.K.Sink.faults _ _ c.write-in-CaptureByte.result
     (ap line_text (sym c.in-CaptureByte.is)) c.write-in-CaptureByte.ensures
+
+pub returns-in-ScriptLine-clause-ok : goal.returns-in-ScriptLine-clause-ok
+returns-in-ScriptLine-clause-ok g c = Writes-ok g.K.Sink.held g.K.Sink.faults _ _ c.write-in-ScriptLine.result
+    (ap line_text (sym c.in-ScriptLine.is)) c.write-in-ScriptLine.ensures
+
+pub returns-in-ScriptLine-clause-fault : goal.returns-in-ScriptLine-clause-fault
+returns-in-ScriptLine-clause-fault g c = Writes-fault g.K.Sink.held g.K.Sink.faults _ _ c.write-in-ScriptLine.result
+    (ap line_text (sym c.in-ScriptLine.is)) c.write-in-ScriptLine.ensures

@@ -3,7 +3,8 @@ use Rattle.svga_cmd.specs.declared.page.PageKey.{PageKey}
 use Rattle.svga_io.proofs.Chains.{GrowsByPrefix-first}
 use Rattle.svga_text.proofs.PassingLaws.{by_result, fault-same, fault-then, on_err, Passes-same, Passes-then, Writes-fault, Writes-last}
 use Rattle.svga_text.specs.Lines.{line}
-use Rattle.svga_text.specs.Pages.{bytes_line, key_text}
+use Rattle.svga_text.specs.Keys.{key_text}
+use Rattle.svga_text.specs.Pages.{bytes_line}
 use Rattle.svga_text.specs.Runs.{largest_runs, runs_text}
 use Rattle.svga_text.proofs.render.Render.page.Goals as goal
 

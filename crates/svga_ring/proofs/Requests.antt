@@ -1,0 +1,4 @@
+-- Requests and their replies.
+pub mod Asks
+pub mod Replies
+pub mod Words

@@ -1,0 +1,3 @@
+-- What a shared table asks of its rule.
+pub mod Rule
+pub mod SeatSteps
