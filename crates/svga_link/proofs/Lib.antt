@@ -1,0 +1,10 @@
+pub mod Begins
+pub mod DeviceSteps
+pub mod DeviceTold
+pub mod DriverSteps
+pub mod DriverTold
+pub mod EndsKept
+pub mod Offsets
+pub mod Opening
+pub mod PageRows
+pub mod WordByWord
