@@ -1,0 +1,4 @@
+pub mod Closing
+pub mod Following
+pub mod Marks
+pub mod OwnPages
