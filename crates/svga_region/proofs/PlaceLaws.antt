@@ -7,7 +7,6 @@ use Rattle.std.proofs.lemmas.List.{get_or_default}
 use Rattle.std.proofs.lemmas.List.FromFn.{length-map-range_with_len, get_or-map-range_with_len}
 use Rattle.std.specs.FinMap as map
 use Rattle.svga_cmd.specs.declared.constants.TheConstants.{SVGA_GMR_FRAMEBUFFER}
-use Rattle.svga_cmd.specs.declared.fault.Fault.{Fault}
 use Rattle.svga_cmd.specs.declared.fault.Fault.TheVariants as fault
 use Rattle.svga_cmd.specs.declared.page.PageKey.TheVariants.{Frame}
 use Rattle.svga_model.proofs.TabulatedLaws.{get-tabulated}
@@ -16,6 +15,7 @@ use Rattle.svga_model.specs.Regions.{Places, Regions, frame_places, defined_plac
 use Rattle.svga_model.specs.Standing.{first_standing}
 use Rattle.svga_region.specs.Conditions.{HasPlace}
 use Rattle.svga_region.specs.Kept.{regions_of, slot_of}
+use Rattle.svga_region.specs.Places.{tests_of_byte}
 
 -- what the map has is what the slot has
 pub get-regions_of : (defined : List Bool) (lists : List Places) (id : ℕ) → id < 4096 → map.get (regions_of defined lists) id ≡ slot_of defined lists id
@@ -66,12 +66,8 @@ past places i l = go (length places) l where
   go : (n : ℕ) → n ≤ i / 4096 → nat_le (4096 * n) i ≡ true
   go n l = grind (arith, nat_tests)
 
--- the tests of a byte where the region has this list
-abbrev pub list_tests : Places → ℕ → List (Bool × Fault)
-list_tests places i = (is_unmapped places i, fault.Unmapped) ∷ (is_beyond places i, fault.BeyondRegion) ∷ []
-
 -- the tests of a byte of the framebuffer
-pub byte_tests-frame : (frame : ℕ) (regions : Regions) (id i : ℕ) → id ≡ SVGA_GMR_FRAMEBUFFER → first_standing (byte_tests frame regions id i) ≡ first_standing (list_tests (frame_places frame) i)
+pub byte_tests-frame : (frame : ℕ) (regions : Regions) (id i : ℕ) → id ≡ SVGA_GMR_FRAMEBUFFER → first_standing (byte_tests frame regions id i) ≡ first_standing (tests_of_byte (frame_places frame) i)
 byte_tests-frame frame regions id i e = ap (λ id. first_standing (byte_tests frame regions id i)) e
 
 -- the tests of a byte, by what the slot has
@@ -90,19 +86,19 @@ byte_tests-none frame defined lists id i l e = byte_tests-small frame defined li
     ∙ ap (λ o. first_standing ((is_none o, fault.NoRegion) ∷ (holds_of o (λ places. is_unmapped places i), fault.Unmapped) ∷ (holds_of o (λ places. is_beyond places i), fault.BeyondRegion) ∷ [])) (slot_is defined lists id false e)
 
 -- a byte of a defined region
-pub byte_tests-some : (frame : ℕ) (defined : List Bool) (lists : List Places) (id i : ℕ) → id < 4096 → slice_index_or defined id false ≡ true → first_standing (byte_tests frame (regions_of defined lists) id i) ≡ first_standing (list_tests (slice_index_or lists id []) i)
+pub byte_tests-some : (frame : ℕ) (defined : List Bool) (lists : List Places) (id i : ℕ) → id < 4096 → slice_index_or defined id false ≡ true → first_standing (byte_tests frame (regions_of defined lists) id i) ≡ first_standing (tests_of_byte (slice_index_or lists id []) i)
 byte_tests-some frame defined lists id i l e = byte_tests-small frame defined lists id i l
     ∙ ap (λ o. first_standing ((is_none o, fault.NoRegion) ∷ (holds_of o (λ places. is_unmapped places i), fault.Unmapped) ∷ (holds_of o (λ places. is_beyond places i), fault.BeyondRegion) ∷ [])) (slot_is defined lists id true e)
 
 -- a byte in the framebuffer
-pub frame_mapped : (frame i : ℕ) → i / 4096 < frame → first_standing (list_tests (frame_places frame) i) ≡ None
+pub frame_mapped : (frame i : ℕ) → i / 4096 < frame → first_standing (tests_of_byte (frame_places frame) i) ≡ None
 frame_mapped frame i l =
     let here = frame_place frame (i / 4096) l in
     let inside = within (frame_places frame) i (omega (arith, length-frame_places frame)) in
     λ j. first_standing ((not (inside j) && is_none (here j), fault.Unmapped) ∷ (inside j, fault.BeyondRegion) ∷ [])
 
 -- a byte past the framebuffer
-pub frame_beyond : (frame i : ℕ) → frame ≤ i / 4096 → first_standing (list_tests (frame_places frame) i) ≡ Some fault.BeyondRegion
+pub frame_beyond : (frame i : ℕ) → frame ≤ i / 4096 → first_standing (tests_of_byte (frame_places frame) i) ≡ Some fault.BeyondRegion
 frame_beyond frame i l =
     let beyond = past (frame_places frame) i (omega (arith, length-frame_places frame)) in
     λ j. first_standing ((not (beyond j) && is_none (page_of_byte (frame_places frame) i), fault.Unmapped) ∷ (beyond j, fault.BeyondRegion) ∷ [])

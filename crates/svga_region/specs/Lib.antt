@@ -4,5 +4,6 @@ pub mod Conditions
 pub mod Kept
 pub mod Next
 pub mod Numbers
+pub mod Places
 pub mod RegionSet
 pub mod WholeChains

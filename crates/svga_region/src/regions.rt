@@ -5,14 +5,14 @@ ghost use Rattle.std.specs.Result.{result_err};
 ghost use Rattle.svga_cmd.specs.Lent.{entries_of};
 ghost use Rattle.svga_cmd.specs.Limits.{IsBetween};
 ghost use Rattle.svga_cmd.specs.WellFormed.{HasEntries};
-ghost use Rattle.svga_cmd.specs.declared.fault.Fault.TheVariants as fault;
-ghost use Rattle.svga_model.specs.RegionBytes.{byte_tests, byte_location, is_beyond, is_unmapped, located};
+ghost use Rattle.svga_model.specs.RegionBytes.{byte_tests, byte_location, located};
 ghost use Rattle.svga_model.specs.Regions.{places_of, region_length, id_tests, define_tests, with_region, remap_tests, with_remap, named_pages, range_pages};
 ghost use Rattle.svga_model.specs.Standing.{first_standing};
 ghost use Rattle.svga_region.specs.ChainCalls.{FinishesChain, ReadsChain, StartsChain};
 ghost use Rattle.svga_region.specs.Conditions.{AreNamed, HasPlace, IsChainBegun, IsChainWhole};
 ghost use Rattle.svga_region.specs.Numbers.{number_tests};
 ghost use Rattle.svga_region.specs.RegionSet.{list_of, places_in};
+ghost use Rattle.svga_region.specs.Places.{tests_of_byte};
 
 use crate::chain::{ChainNext, Reading, next_of};
 use crate::descriptor::Descriptor;
@@ -336,8 +336,7 @@ impl Regions {
 }
 
 fn locate_in(places: &[Option<PageKey>], byte: u64) -> Result<(PageKey, u16), Fault>
-    ensures fault { result_err result ≡ first_standing
-        ((is_unmapped places.now byte, fault.Unmapped) ∷ (is_beyond places.now byte, fault.BeyondRegion) ∷ []) }
+    ensures fault { result_err result ≡ first_standing (tests_of_byte places.now byte) }
     ensures located { IfOk result (λ at. byte_location places.now byte ≡ Some at) }
 {
     if byte / PAGE_SIZE as u64 >= places.len() as u64 {

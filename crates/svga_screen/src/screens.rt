@@ -81,7 +81,8 @@ impl Screens {
     pub fn destroy(&mut self, id: u32) -> Result<(), Fault>
         ensures fault { result_err result ≡ first_standing
             (destroy_screen_tests (definitions_of self.old.screens) id) }
-        ensures ok { OnOk result (self.new ≡ record self.old { screens = without_screen self.old.screens id }) }
+        ensures ok { OnOk result (self.new ≡ record self.old
+            { screens = without_screen self.old.screens id }) }
         ensures err { OnErr result (self.new ≡ self.old) }
     {
         self.may_destroy(id)?;

@@ -3,7 +3,8 @@ use Rattle.svga_cmd.specs.declared.page.PageKey.{PageKey}
 use Rattle.svga_model.specs.RegionBytes.{byte_tests, byte_location, located}
 use Rattle.svga_model.specs.Standing.{first_standing}
 use Rattle.svga_region.specs.Kept.{regions_of}
-use Rattle.svga_region.proofs.PlaceLaws.{byte_tests-frame, byte_tests-none, byte_tests-some, list_tests, frame_mapped, frame_beyond, located-frame, located-some, read_flag}
+use Rattle.svga_region.specs.Places.{tests_of_byte}
+use Rattle.svga_region.proofs.PlaceLaws.{byte_tests-frame, byte_tests-none, byte_tests-some, frame_mapped, frame_beyond, located-frame, located-some, read_flag}
 use Rattle.svga_region.proofs.regions.Regions.locate.Goals as goal
 
 pub returns-then-page-self-clause-fault : goal.returns-then-page-self-clause-fault
@@ -29,7 +30,7 @@ returns-then-not-index-clause-fault c =
 pub returns-else-not-index-clause-fault : goal.returns-else-not-index-clause-fault
 returns-else-not-index-clause-fault c =
     let flag = read_flag c.self.inside.defined.items c.args.id c.index.result.now (omega (arith, c.self.invariant.2.flags)) c.index.ensures in
-    c.locate_in.ensures.fault ∙ ap (λ xs. first_standing (list_tests xs c.args.byte)) c.list.ensures
+    c.locate_in.ensures.fault ∙ ap (λ xs. first_standing (tests_of_byte xs c.args.byte)) c.list.ensures
     ∙ sym (byte_tests-some c.self.inside.frame c.self.inside.defined.items c.self.inside.lists.lists c.args.id c.args.byte (omega arith) (flag ∙ c.if-not-index.false))
     ∙ ap (λ r. first_standing (byte_tests r.frame r.regions c.args.id c.args.byte)) c.self.view_is
 
