@@ -39,6 +39,13 @@ impl RunList {
     {
         &self.items
     }
+
+    /// Gives the runs back, and takes no memory.
+    pub fn into_runs(self) -> Vec<Run>
+        ensures { result.items ≡ self }
+    {
+        self.items
+    }
 }
 
 /// Bytes that are written to a page.
@@ -66,5 +73,12 @@ impl ByteList {
         ensures { result.now ≡ self.now }
     {
         &self.items
+    }
+
+    /// Gives the bytes back, and takes no memory.
+    pub fn into_bytes(self) -> Vec<u8>
+        ensures { result.items ≡ self }
+    {
+        self.items
     }
 }

@@ -75,16 +75,21 @@ fn end(reading: Reading) -> Result<Script, ScriptFault>
             if reading.short {
                 Err(ScriptFault::Memory)
             } else {
-                Ok(Script {
-                    session,
-                    acts: reading.acts,
-                })
+                Ok(Script::new(session, reading.acts))
             }
         }
     }
 }
 
 impl Script {
+    /// A script of a session and of acts, each with the number of its line.
+    pub(crate) fn new(session: Session, acts: Vec<LineAct>) -> Script
+        requires { AreBounded (map line_act acts.items) }
+        ensures { result ≡ record { session = numbers_of session; acts = map line_act acts.items } }
+    {
+        Script { session, acts }
+    }
+
     /// The session that it opens.
     pub fn session(&self) -> &Session
         ensures { numbers_of result.now ≡ self.now.session }
