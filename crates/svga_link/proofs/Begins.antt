@@ -13,7 +13,7 @@ use Rattle.svga_ring.specs.Rings.{free_bytes, size_of}
 use Rattle.svga_ring.specs.Views.{DriverView, loaded}
 use Rattle.svga_ring.specs.declared.plans.Geometry.{Geometry}
 use Rattle.svga_link.specs.Ends.{DriverSeen, IsDriverEnd, words_put}
-use Rattle.svga_link.specs.ReserveAnswers.{CanBegin, IsBegun, ReserveAnswers, SeatAnswers}
+use Rattle.svga_link.specs.ReserveAnswers.{CanBegin, HasNoRoom, IsBegun, ReserveAnswers, SeatAnswers}
 use Rattle.svga_link.specs.Reserving.{IsAligned, free_now, goes_in_place, in_place_by, next_command, putting, reserving}
 use Rattle.svga_link.specs.Seats.{IsDriverPossible}
 use Rattle.svga_link.specs.Told.{StopTold, with_pending}
@@ -46,6 +46,18 @@ begun d loaded left bytes stop at first g told none ring here room left_is first
       first_is = first_is ∙ ap (λ m. min bytes (m - at)) max;
     }
 
+pub no_room : (d left : DriverView) (bytes stop at free : ℕ) (g : Geometry) → StopTold d left stop
+    → d.pending ≡ [] → g ≡ geometry_of left.layout → at ≡ next_offset left → free ≡ free_bytes g at stop
+    → free_bytes g at stop ≤ bytes → HasNoRoom d bytes stop free left
+no_room d left bytes stop at free g told none ring here free_is few =
+    let command : at ≡ next_command left = here ∙ next_is_command left (ap (λ x. x.pending) told.view ∙ none) in
+    let stop_is : stop ≡ word_address left.layout left.stop =
+    told.address ∙ sym (ap (λ x. word_address x.layout x.stop) told.view) in record {
+      told = told;
+      free_is = free_is ∙ (λ i. free_bytes (ring i) (command i) (stop_is i));
+      too_few = omega (arith, few, free_is);
+    }
+
 -- so many words have room behind those that are sent
 room_for : (d : DriverView) (bytes : ℕ) → IsDriverPossible d → d.pending ≡ [] → bytes < free_now d
     → length d.sent + bytes / 4 < d.stop + ring_dwords d.layout
@@ -68,7 +80,7 @@ fits_before : (at bytes max first : ℕ) → bytes ≢ 0 → first ≡ min bytes
     → (first == bytes) ≡ nat_le (at + bytes) max
 fits_before at bytes max first some is = grind (arith, nat_tests, is, some)
 
-none_of : (l : List ℕ) → length l ≡ 0 → l ≡ []
+pub none_of : (l : List ℕ) → length l ≡ 0 → l ≡ []
 none_of [] e = refl
 none_of (x ∷ xs) e = absurd (omega (arith, e))
 

@@ -1,6 +1,7 @@
 -- A step of the driver's seat: that the table allows it, and what it leaves.
 use Rattle.std.proofs.Common.{◌≡◌, ℕ, List, sym, ap, ◌∙◌}
-use Rattle.atomic_table.specs.Table.{Allows, Me}
+use Rattle.atomic_table.specs.Seated.{TableId}
+use Rattle.atomic_table.specs.Table.{Allows, Me, carried_after}
 use Rattle.svga_cmd.specs.Spelling.{Spells}
 use Rattle.svga_cmd.specs.declared.command.Command.{Command}
 use Rattle.svga_cmd.specs.declared.session.Session.{Session}
@@ -11,10 +12,10 @@ use Rattle.svga_ring.specs.Locations.{Slot}
 use Rattle.svga_ring.specs.RingPieces.{next_offset}
 use Rattle.svga_ring.specs.SharedTable.{next_word}
 use Rattle.svga_ring.specs.TableRule.{IsSoundTable, View}
-use Rattle.svga_ring.specs.TableSteps.{DriverBrings, DriverLearns, driver_value, driver_word}
+use Rattle.svga_ring.specs.TableSteps.{DriverBrings, DriverLearns, driver_move, driver_value, driver_word}
 use Rattle.svga_ring.specs.Views.{DriverView, driver}
 use Rattle.svga_link.specs.Plays.{DriverLoads, DriverStores}
-use Rattle.svga_link.specs.Seats.{IsDriverSeat}
+use Rattle.svga_link.specs.Seats.{IsDriverSeat, SeenDriverSeat}
 
 -- a store of this value to this word, with which it tells what the step does
 pub driver_stores_as : (k : Session) (slots id : ℕ) (me : Me Slot View) (event : Event) (word value : ℕ)
@@ -52,18 +53,33 @@ pub driver_view : (k : Session) (me left : Me Slot View) (event : Event) (found 
 driver_view k me left event found becomes told makes =
     ap (λ m. m.0.of_driver) told.left_is ∙ makes told.core ∙ ap becomes told.view_is
 
+-- the seat, as contracts see it
+pub seat_left : (k : Session) (me left : Me Slot View) (event : Event) (found : ℕ) (becomes : DriverView → DriverView)
+    → DriverLearns k me event found left → ((c : Core) → (after event c).driver ≡ becomes c.driver)
+    → (table table' : TableId) → table' ≡ table
+    → ◌≡◌ {A = SeenDriverSeat} (record { table = table'; view = left.0.of_driver; carried = left.1 }) (record {
+      table = table;
+      view = becomes me.0.of_driver;
+      carried = carried_after me.1 (driver_move event me.0.of_driver);
+    })
+seat_left k me left event found becomes told makes table table' tables =
+    let view = driver_view k me left event found becomes told makes in
+    λ i. record { table = tables i; view = view i; carried = ap (λ m. m.1) told.left_is i }
+
 -- and what the seat keeps
-pub driver_kept : (k session : Session) (me left : Me Slot View) (event : Event) (found next next' : ℕ)
-    → IsDriverSeat session me next → DriverLearns k me event found left
+pub driver_kept_as : (k session : Session) (me left : Me Slot View) (event : Event) (found next next' request request' : ℕ)
+    → IsDriverSeat session me next request → DriverLearns k me event found left
     → ((c : Core) → (after event c).seats ≡ c.seats)
     → ((c : Core) → (after event c).driver.terms ≡ c.driver.terms)
     → ((c : Core) → (after event c).driver.layout ≡ c.driver.layout)
-    → next' ≡ next_offset left.0.of_driver → IsDriverSeat session left next'
-driver_kept k session me left event found next next' is told seats terms layout next_is = record {
+    → next' ≡ next_offset left.0.of_driver → request' ≡ left.0.of_driver.request.number
+    → IsDriverSeat session left next' request'
+driver_kept_as k session me left event found next next' request request' is told seats terms layout next_is request_is = record {
   role = ap (λ m. m.0.role) told.left_is ∙ is.role;
   terms = ap (λ m. m.0.of_driver.terms) told.left_is ∙ terms told.core ∙ ap (λ d. d.terms) told.view_is ∙ is.terms;
   layout = ap (λ m. m.0.of_driver.layout) told.left_is ∙ layout told.core ∙ ap (λ d. d.layout) told.view_is ∙ is.layout;
   next_is = next_is;
+  request_is = request_is;
   possible = record {
     key = k;
     core = after event told.core;
@@ -72,6 +88,19 @@ driver_kept k session me left event found next next' is told seats terms layout 
     view_is = sym (ap (λ m. m.0.of_driver) told.left_is);
   };
 }
+
+-- where it makes no request
+pub driver_kept : (k session : Session) (me left : Me Slot View) (event : Event) (found next next' request : ℕ)
+    → IsDriverSeat session me next request → DriverLearns k me event found left
+    → ((c : Core) → (after event c).seats ≡ c.seats)
+    → ((c : Core) → (after event c).driver.terms ≡ c.driver.terms)
+    → ((c : Core) → (after event c).driver.layout ≡ c.driver.layout)
+    → ((c : Core) → (after event c).driver.request ≡ c.driver.request)
+    → next' ≡ next_offset left.0.of_driver → IsDriverSeat session left next' request
+driver_kept k session me left event found next next' request is told seats terms layout requests next_is =
+    driver_kept_as k session me left event found next next' request request is told seats terms layout next_is
+    (is.request_is ∙ sym (ap (λ m. m.0.of_driver.request.number) told.left_is ∙ ap (λ r. r.number) (requests told.core)
+    ∙ ap (λ d. d.request.number) told.view_is))
 
 -- a store of NEXT_CMD that commits the command that these words spell
 pub driver_commits : (k : Session) (slots id : ℕ) (me : Me Slot View) (word value : ℕ) (own : Command)

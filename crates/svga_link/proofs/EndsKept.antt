@@ -20,7 +20,7 @@ device_end_served e left carried carried' row c is may here same =
       none_carried = same ∙ is.none_carried;
       none_out = is.none_out;
       row_is = is.row_is;
-      mine = λ key is_key. is.mine key is_key ∙ may.none_held key ∙ sym (held_unnoted map.empty key (map.get-empty key_cmp key));
+      mine = λ key. held_unnoted map.empty key (map.get-empty key_cmp key) ∙ sym (may.none_held key) ∙ is.mine key;
     })
 
 -- the end with other words in its reservation, and with one more

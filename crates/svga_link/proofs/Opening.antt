@@ -4,7 +4,7 @@ use Rattle.std.proofs.lemmas.List.{get_or-replicate, length-replicate}
 use Rattle.std.specs.FinMap as map
 use Rattle.std.specs.FinSet as set
 use Rattle.atomic_table.specs.Table.{Me}
-use Rattle.svga_cmd.specs.Pages.{key_cmp}
+use Rattle.svga_cmd.specs.Pages.{key_cmp, page_at}
 use Rattle.svga_cmd.specs.declared.constants.TheConstants.{PAGE_SIZE}
 use Rattle.svga_cmd.specs.declared.session.Session.{Session}
 use Rattle.svga_cmd.specs.declared.session.Way.{Way}
@@ -24,7 +24,8 @@ use Rattle.svga_ring.specs.SoundWords.{capabilities}
 use Rattle.svga_ring.specs.TableRule.{View, as_device, as_driver, opening_view}
 use Rattle.svga_ring.specs.Views.{DeviceView, DriverView, opening_device, opening_driver, opening_layout}
 use Rattle.svga_link.proofs.Offsets.{layout_of}
-use Rattle.svga_link.specs.Ends.{IsDeviceEnd, IsDriverEnd}
+use Rattle.svga_link.proofs.PageRows.{none_there}
+use Rattle.svga_link.specs.Ends.{IsDeviceEnd, IsDriverEnd, pages_in}
 use Rattle.svga_link.specs.Reserving.{reserved_by}
 use Rattle.svga_link.specs.Seats.{IsDevicePossible, IsDeviceSeat, IsDriverPossible, IsDriverSeat}
 
@@ -51,12 +52,13 @@ driver_possible k = record { key = k; core = after Split (opening_core k); sound
 pub device_possible : (k : Session) → IsDevicePossible (opening_device k)
 device_possible k = record { key = k; core = after Split (opening_core k); sound = split_sound k; apart = refl; view_is = refl }
 
-pub driver_opens : (k : Session) (me : Me Slot View) → me ≡ (as_driver (opening_view k), []) → IsDriverSeat k me ring_start
-driver_opens k me is = subst (λ m. IsDriverSeat k m ring_start) (sym is) (record {
+pub driver_opens : (k : Session) (me : Me Slot View) → me ≡ (as_driver (opening_view k), []) → IsDriverSeat k me ring_start 0
+driver_opens k me is = subst (λ m. IsDriverSeat k m ring_start 0) (sym is) (record {
   role = refl;
   terms = refl;
   layout = refl;
   next_is = omega arith;
+  request_is = refl;
   possible = driver_possible k;
 })
 
@@ -114,8 +116,8 @@ device_end_opens k e carried row is none empty = record {
   none_carried = none;
   none_out = ap (λ x. x.out) is;
   row_is = ap length empty ∙ length-replicate (page_count e.terms.limits) None;
-  mine = λ key is_key.
-      ap (λ r. is_some (slice_index_or r (slot_number e.terms.limits key) None)) empty
-      ∙ ap is_some (get_or-replicate (page_count e.terms.limits) (slot_number e.terms.limits key) None None (slot_there e.terms.limits key is_key))
-      ∙ sym (ap (λ x. holds x.noted key) is ∙ held_unnoted map.empty key (map.get-empty key_cmp key));
+  mine = λ key.
+      ap (λ x. holds x.noted key) is ∙ held_unnoted map.empty key (map.get-empty key_cmp key)
+      ∙ sym (ap (λ r. is_some (page_at (pages_in e.terms.limits r) key)) empty
+      ∙ ap is_some (none_there e.terms.limits (page_count e.terms.limits) key));
 }

@@ -2,7 +2,7 @@
 use Rattle.std.specs.Prelude.{◌≡◌, ◌≢◌, ℕ, ◌+◌, ◌*◌, ◌/◌, ◌%◌, ◌<◌, ◌≤◌, ◌^◌, List, [], ◌++◌, length, take, Bool, false, not, is_some, slice_index_or, None}
 use Rattle.std.specs.FinSet as set
 use Rattle.atomic_table.specs.Seated.{TableId}
-use Rattle.svga_cmd.specs.Pages.{IsKey, Memory}
+use Rattle.svga_cmd.specs.Pages.{IsKey, Memory, page_at}
 use Rattle.svga_cmd.specs.Slots.{from_slots, key_of}
 use Rattle.svga_cmd.specs.declared.limits.Limits.{Limits}
 use Rattle.svga_cmd.specs.declared.page.PageKey.{PageKey}
@@ -12,6 +12,7 @@ use Rattle.svga_ring.specs.Layouts.{ring_dwords}
 use Rattle.svga_ring.specs.Locations.{Slot}
 use Rattle.svga_ring.specs.Noting.{holds}
 use Rattle.svga_ring.specs.SharedTable.{page_count, slot_number}
+use Rattle.svga_ring.specs.TableRule.{spent_view}
 use Rattle.svga_ring.specs.Views.{DeviceView, DriverView}
 
 -- the driver's end
@@ -30,6 +31,26 @@ pub record DeviceSeen : Type 0 where
   pub view : DeviceView
   -- the pages that it holds
   pub pages : Memory
+
+-- what that is beside its pages
+pub record DeviceRest : Type 0 where
+  pub table : TableId
+  pub view : DeviceView
+
+-- that of no end
+abbrev pub no_rest : DeviceRest
+no_rest = record {
+  table = record {
+    words = 0;
+    slots = 0;
+    views_name = 0;
+    atom = 0;
+    block = 0;
+    offset = 0;
+    slot_names = [];
+  };
+  view = spent_view.of_device;
+}
 
 -- the pages that lie in an end's row of slots
 abbrev pub pages_in : Limits → List Slot → Memory
@@ -71,5 +92,5 @@ pub record IsDeviceEnd (view : DeviceView) (carried : List (ℕ × Slot)) (row :
   pub none_out : view.out ≡ None
   pub row_is : length row ≡ page_count view.terms.limits
   -- the pages in its row are those that it holds
-  pub mine : (key : PageKey) → IsKey view.terms.limits key
-      → is_some (slice_index_or row (slot_number view.terms.limits key) None) ≡ holds view.noted key
+  pub mine : (key : PageKey)
+      → holds view.noted key ≡ is_some (page_at (pages_in view.terms.limits row) key)

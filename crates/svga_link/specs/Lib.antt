@@ -1,4 +1,10 @@
+pub mod Closing
+pub mod ClosingPlays
+pub mod DevicePlays
+pub mod DriverPlays
 pub mod Ends
+pub mod Holding
+pub mod Lending
 pub mod Plays
 pub mod ReserveAnswers
 pub mod Reserving

@@ -6,23 +6,38 @@
 #![tactic(auto)]
 
 mod board;
+mod closed;
+mod closing;
+mod closing_plays;
 mod device;
+mod device_plays;
 mod device_seat;
 mod driver;
+mod driver_pages;
+mod driver_plays;
 mod driver_seat;
 mod making;
 mod named;
+mod page_words;
 mod plays;
+mod requests;
 mod reserving;
 mod ring;
 mod sending;
 mod table_words;
 
 pub use board::View;
-pub use device::DeviceEnd;
+pub use closed::Closed;
+pub use closing::close;
+pub use device::{Beside, DeviceEnd};
 pub use driver::DriverEnd;
 pub use making::make;
+pub use requests::Request;
 pub use reserving::{ReserveFault, Reserved};
 
+#[cfg(test)]
+mod device_tests;
+#[cfg(test)]
+mod driver_tests;
 #[cfg(test)]
 mod tests;

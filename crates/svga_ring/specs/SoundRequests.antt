@@ -1,5 +1,5 @@
 -- What is sound of requests.
-use Rattle.std.specs.Prelude.{◌≡◌, ◌≢◌, ◌⊎◌, ℕ, List, [], length, slice_index, false}
+use Rattle.std.specs.Prelude.{◌≡◌, ◌≢◌, ◌⊎◌, ◌<◌, ◌^◌, ℕ, List, [], length, slice_index, false}
 use Rattle.svga_cmd.specs.declared.command.Command.{Command}
 use Rattle.svga_cmd.specs.declared.session.Way.{Way}
 use Rattle.svga_cmd.specs.declared.session.Way.TheVariants.{Reserve, Dword}
@@ -20,8 +20,9 @@ pub record AreRequests (words : List ℕ) (acts : List Act) (request wanted : Re
   -- what the device loaded last is the request, or one that was answered
   pub loaded_is : (wanted ≡ request) ⊎ (wanted.number ≡ answered)
   pub reserved_is : slice_index words reserved_word ≡ reserved
-  -- so that its word tells the request
+  -- so that its word tells the request, and that of the reply a number
   pub fits : IsRequest request
+  pub answered_fits : answered < 2 ^ 20
   -- until a ring grows: a sentence by itself, which no other rests on
   pub no_ring : is_ring_request request ≡ false
 

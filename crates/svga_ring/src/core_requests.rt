@@ -36,6 +36,7 @@ pub fn requests_tell()
     // The reply: the number of the last one that was answered.
     ensures reply { (k : Session) (c : Core) → IsSound k c
         → slice_index c.words reply_word ≡ c.device.answered }
+    ensures reply_fits { (k : Session) (c : Core) → IsSound k c → c.device.answered < 2 ^ 20 }
 
     // A request that was loaded, and isn't the last one that was answered, is the driver's last.
     ensures wanted { (k : Session) (c : Core) → IsSound k c → c.device.wanted.number ≢ c.device.answered

@@ -299,5 +299,6 @@ requests_more more last o = record {
   loaded_is = o.loaded_is;
   reserved_is = o.reserved_is;
   fits = o.fits;
+  answered_fits = o.answered_fits;
   no_ring = o.no_ring;
 }

@@ -225,6 +225,7 @@ requests_ask {words = words} {acts = acts} {wanted = wanted} {answered = answere
       ];
       reserved_is = get_or-set_other words request_word reserved_word x 0 (omega arith) ∙ o.reserved_is;
       fits = fits;
+      answered_fits = o.answered_fits;
       no_ring = no_ring;
     }
 

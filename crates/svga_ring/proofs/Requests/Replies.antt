@@ -1,5 +1,5 @@
 -- The store of the reply: the chain that is out is served, and what is settled is its step further.
-use Rattle.std.proofs.Common.{◌≡◌, ◌≢◌, inl, ℕ, ◌<◌, List, [], ◌∷◌, ◌++◌, length, slice_set, All, true, false, None, refl, sym, ap, subst, ◌∙◌, arith, get_or-set_other, get_or-set_same}
+use Rattle.std.proofs.Common.{◌≡◌, ◌≢◌, inl, ℕ, ◌<◌, ◌^◌, List, [], ◌∷◌, ◌++◌, length, slice_set, All, true, false, None, refl, sym, ap, subst, ◌∙◌, arith, get_or-set_other, get_or-set_same}
 use Rattle.std.proofs.lemmas.List.Elements.{All-head, All-tail}
 use Rattle.std.specs.FinMap as map
 use Rattle.svga_cmd.specs.Pages.{HasPage, IsKey, page_at}
@@ -179,6 +179,7 @@ requests_reply {words = words} {request = request} {wanted = wanted} inside same
       loaded_is = inl same;
       reserved_is = get_or-set_other words reply_word reserved_word x 0 (omega arith) ∙ o.reserved_is;
       fits = o.fits;
+      answered_fits = subst (λ (r : Request). r.number < 2 ^ 20) (sym same) o.fits.number_fits;
       no_ring = o.no_ring;
     }
 

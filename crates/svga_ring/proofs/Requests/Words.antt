@@ -54,6 +54,7 @@ requests_reserved {words = words} value inside o = record {
   loaded_is = o.loaded_is;
   reserved_is = get_or-set_same words reserved_word value 0 inside;
   fits = o.fits;
+  answered_fits = o.answered_fits;
   no_ring = o.no_ring;
 }
 
@@ -84,6 +85,7 @@ keeps_load_reply k c o can =
       loaded_is = requests.loaded_is;
       reserved_is = requests.reserved_is;
       fits = requests.fits;
+      answered_fits = requests.answered_fits;
       no_ring = requests.no_ring;
     }) (record {
       config_is = stops.config_is;
@@ -120,6 +122,7 @@ keeps_load_request k c o can =
       loaded_is = inl refl;
       reserved_is = requests.reserved_is;
       fits = requests.fits;
+      answered_fits = requests.answered_fits;
       no_ring = requests.no_ring;
     }) o.stops o.reserving (one_out o can.0)
 

@@ -84,6 +84,7 @@ opened_requests k = record {
   loaded_is = inl refl;
   reserved_is = opening_zero k 14 (omega arith) (omega arith);
   fits = record { number_fits = omega arith; id_fits = omega arith; descriptor_fits = omega arith };
+  answered_fits = omega arith;
   no_ring = refl;
 }
 

@@ -128,6 +128,7 @@ requests_beside {words = words} i x no_request no_reply no_reserved o = record {
   loaded_is = o.loaded_is;
   reserved_is = get_or-set_other words i reserved_word x 0 (λ e. no_reserved (sym e)) ∙ o.reserved_is;
   fits = o.fits;
+  answered_fits = o.answered_fits;
   no_ring = o.no_ring;
 }
 

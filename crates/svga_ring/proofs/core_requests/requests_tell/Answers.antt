@@ -15,6 +15,9 @@ returns-clause-request_fits c = λ k core o. (o.requests.fits, sym o.requests.re
 pub returns-clause-reply : goal.returns-clause-reply
 returns-clause-reply c = λ k core o. o.requests.reply_is
 
+pub returns-clause-reply_fits : goal.returns-clause-reply_fits
+returns-clause-reply_fits c = λ k core o. o.requests.answered_fits
+
 pub returns-clause-wanted : goal.returns-clause-wanted
 returns-clause-wanted c = λ k core o waits. wanted_is o.requests waits
 

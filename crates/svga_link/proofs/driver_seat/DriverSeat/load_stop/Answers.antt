@@ -17,5 +17,5 @@ pub invariant_of-self : goal.invariant_of-self
 invariant_of-self c =
     let t = c.load.ensures.2.1 in (
       table_stays _ _ _ _ _ c.self.invariant.0 c.load.ensures.0,
-      driver_kept _ _ _ _ LoadStop _ _ _ c.self.invariant.1 t (λ core. refl) (λ core. refl) (λ core. refl) (c.self.invariant.1.next_is ∙ stop_next _ _ _ _ t),
+      driver_kept _ _ _ _ LoadStop _ _ _ _ c.self.invariant.1 t (λ core. refl) (λ core. refl) (λ core. refl) (λ core. refl) (c.self.invariant.1.next_is ∙ stop_next _ _ _ _ t),
     )

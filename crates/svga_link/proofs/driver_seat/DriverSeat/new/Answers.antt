@@ -2,8 +2,8 @@ use Rattle.std.proofs.Common.{ap, sym, ◌∙◌}
 use Rattle.svga_link.proofs.Opening.{driver_opens}
 use Rattle.svga_link.proofs.driver_seat.DriverSeat.new.Goals as goal
 
-pub invariant_of-result : goal.invariant_of-result
-invariant_of-result c = (
+pub invariant_of-result-2 : goal.invariant_of-result-2
+invariant_of-result-2 c = (
   record {
     one_table = c.requires.table;
     key_is = c.requires.key;

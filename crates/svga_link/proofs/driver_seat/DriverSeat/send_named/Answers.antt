@@ -6,6 +6,7 @@ use Rattle.svga_link.proofs.DriverSteps.{driver_commits, driver_kept, driver_vie
 use Rattle.svga_link.proofs.DriverTold.{next_after_sending, seat_sending, sent_seat, unsent_first}
 use Rattle.svga_link.proofs.Offsets.{table_stays}
 use Rattle.svga_link.specs.Told.{sending}
+use Rattle.svga_link.proofs.StoreCounts.{few_stores}
 use Rattle.svga_link.proofs.driver_seat.DriverSeat.send_named.Goals as goal
 
 pub store-requires : goal.store-requires
@@ -26,7 +27,7 @@ invariant_of-self g c =
     let t = c.store.ensures.2.2.2 in
     let view = driver_view _ _ _ (Commit own) _ (λ d. sending d own) t (λ core. refl) in (
       table_stays _ _ _ _ _ c.self.invariant.0 c.store.ensures.0,
-      driver_kept _ _ _ _ (Commit own) _ _ _ i t (λ core. refl) (λ core. refl) (λ core. refl)
+      driver_kept _ _ _ _ (Commit own) _ _ _ _ i t (λ core. refl) (λ core. refl) (λ core. refl) (λ core. refl)
           (i.next_is ∙ next_after_sending _ _ own view),
     )
 
@@ -39,3 +40,6 @@ pub returns-clause-unsent : goal.returns-clause-unsent
 returns-clause-unsent g c = λ more are.
     let t = c.store.ensures.2 in
     unsent_first _ _ _ _ t.0 _ more t.1 t.2.2 (are ∙ ap (λ (d : DriverView). d.pending ++ more) (sym (ap (λ s. s.view) c.self.view_is)))
+
+pub overflow_add-self : goal.overflow_add-self
+overflow_add-self g c = let few = few_stores _ c.self.invariant.1.possible in omega (arith, few, c.self.inside.counted)

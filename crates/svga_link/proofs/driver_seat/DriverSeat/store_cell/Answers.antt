@@ -28,6 +28,6 @@ invariant_of-self c =
     let view = driver_view _ _ _ (StoreCell c.args.word) _ (λ d. with_pending d c.args.word) t (λ core. refl) in
     let behind = c.word_behind-self-inside.ensures (put_count d) (i.next_is ∙ ap (λ l. word_address l (put_count d)) i.layout) in (
       table_stays _ _ _ _ _ c.self.invariant.0 c.store.ensures.0,
-      driver_kept _ _ _ _ (StoreCell c.args.word) _ _ _ i t (λ core. refl) (λ core. refl) (λ core. refl)
+      driver_kept _ _ _ _ (StoreCell c.args.word) _ _ _ _ i t (λ core. refl) (λ core. refl) (λ core. refl) (λ core. refl)
           (behind ∙ ap (λ l. word_address l (put_count d + 1)) (sym i.layout) ∙ next_after_put d _ c.args.word view),
     )

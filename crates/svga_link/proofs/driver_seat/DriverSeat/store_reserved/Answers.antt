@@ -24,6 +24,6 @@ invariant_of-self c =
     let t = c.store.ensures.2.2 in
     let view = driver_view _ _ _ (StoreReserved c.args.bytes) _ (λ d. with_reserved d c.args.bytes) t (λ core. refl) in (
       table_stays _ _ _ _ _ c.self.invariant.0 c.store.ensures.0,
-      driver_kept _ _ _ _ (StoreReserved c.args.bytes) _ _ _ i t (λ core. refl) (λ core. refl) (λ core. refl)
+      driver_kept _ _ _ _ (StoreReserved c.args.bytes) _ _ _ _ i t (λ core. refl) (λ core. refl) (λ core. refl) (λ core. refl)
           (i.next_is ∙ sym (ap next_offset view)),
     )
