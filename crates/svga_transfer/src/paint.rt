@@ -144,7 +144,8 @@ fn paint_row<P: PageStore>(
     room: &mut RowRoom,
 )
     requires short { area.width ≤ MAX_SCREEN_SIDE }
-    requires on_screen { IsOnScreen (definitions_of screens.old.screens area.screen) area.left row area.width }
+    requires on_screen { IsOnScreen (definitions_of screens.old.screens area.screen)
+        area.left row area.width }
     requires there { HasBytes (P.pages store.now) (places_in regions.now gmrfb.now.region) from
         (area.width * bytes_per_pixel gmrfb.now.format) }
     ensures { screens.new ≡ record screens.old {
