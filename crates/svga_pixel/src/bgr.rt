@@ -3,6 +3,8 @@ ghost use Rattle.svga_cmd.specs.declared.format.Format.TheVariants as format;
 
 use crate::colour::{blue, green, mix, red};
 use crate::layout::Layout;
+use byteorder::{ByteOrder, LittleEndian};
+use svga_cmd::constants::COLOURS;
 
 /// Four bytes a pixel, the last of them unused.
 pub struct Bgrx32;
@@ -15,14 +17,11 @@ impl Layout for Bgrx32 {
     }
 
     fn widen(bytes: &[u8]) -> u32 {
-        mix(bytes[2], bytes[1], bytes[0])
+        LittleEndian::read_u32(bytes) % COLOURS
     }
 
     fn narrow(colour: u32, out: &mut [u8]) {
-        out[0] = blue(colour);
-        out[1] = green(colour);
-        out[2] = red(colour);
-        out[3] = 0;
+        LittleEndian::write_u32(out, colour);
     }
 }
 

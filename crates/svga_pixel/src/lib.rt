@@ -6,11 +6,13 @@
 
 mod bgr;
 mod colour;
+mod lanes;
 mod layout;
 mod pixel;
 mod row;
 mod sixteen;
 mod start;
+mod wide;
 
 pub use pixel::{narrow, pixel_length, widen};
 pub use row::{read_row, write_row};

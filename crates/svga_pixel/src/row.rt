@@ -5,6 +5,7 @@ ghost use Rattle.svga_model.specs.Colours.{pixel_length, row_bytes, row_colours}
 use crate::bgr::{Bgr24, Bgrx32};
 use crate::layout::Layout;
 use crate::sixteen::{Rgb555, Rgb565};
+use crate::wide::read_wide;
 use svga_cmd::Format;
 use svga_cmd::constants::COLOURS;
 
@@ -17,9 +18,9 @@ pub fn read_row(format: Format, bytes: &[u8], colours: &mut [u32])
     // The format is looked at once a row, so that each loop is tight.
     match format {
         Format::Bgrx32 => read::<Bgrx32>(bytes, colours),
-        Format::Bgr24 => read::<Bgr24>(bytes, colours),
-        Format::Rgb565 => read::<Rgb565>(bytes, colours),
-        Format::Rgb555 => read::<Rgb555>(bytes, colours),
+        Format::Bgr24 => read_wide::<Bgr24>(bytes, colours),
+        Format::Rgb565 => read_wide::<Rgb565>(bytes, colours),
+        Format::Rgb555 => read_wide::<Rgb555>(bytes, colours),
     }
 }
 
@@ -37,7 +38,8 @@ pub fn write_row(format: Format, colours: &[u32], bytes: &mut [u8])
     }
 }
 
-fn read<L: Layout>(bytes: &[u8], colours: &mut [u32])
+/// Reads a row pixel by pixel.
+pub(crate) fn read<L: Layout>(bytes: &[u8], colours: &mut [u32])
     requires { length bytes.now ≡ length colours.old * pixel_length L.format }
     ensures colours { colours.new ≡ row_colours L.format (length colours.old) bytes.now }
     ensures in_range { All (λ c. c < COLOURS) colours.new }
@@ -49,7 +51,8 @@ fn read<L: Layout>(bytes: &[u8], colours: &mut [u32])
     }
 }
 
-fn write<L: Layout>(colours: &[u32], bytes: &mut [u8])
+/// Writes a row pixel by pixel.
+pub(crate) fn write<L: Layout>(colours: &[u32], bytes: &mut [u8])
     requires in_range { All (λ c. c < COLOURS) colours.now }
     requires whole { length bytes.old ≡ length colours.now * pixel_length L.format }
     ensures { bytes.new ≡ row_bytes L.format colours.now }

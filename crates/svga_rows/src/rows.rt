@@ -2,6 +2,7 @@
 ghost use Rattle.std.specs.Prelude.{◌≡◌, ℕ, ◌+◌, ◌-◌, ◌≤◌, ◌<◌, ◌^◌, List, length, slice_index, slice_index_or, slice_set, slice_range, replicate, [], IfOk};
 ghost use Rattle.svga_rows.specs.Rows.{AreStarts, lists_of, list_at, total_length, with_values};
 
+use crate::fill::{Fill, fill_part};
 use crate::shift::{put, replace_middle, shift};
 use std::alloc::{AllocError, Global};
 use std::marker::Model;
@@ -75,6 +76,18 @@ impl<T: Copy + Drop> Rows<T> {
         write_at(&mut self.items, &self.starts, number, from, values);
     }
 
+    /// Lets a filler write the items of a list from an index on, where they stand; all else stays.
+    pub fn fill<F: Fill<T>>(&mut self, number: usize, from: usize, count: usize, filler: &F)
+        requires within { number < length self.old.lists }
+        requires count { count ≡ length (F.values filler.now) }
+        requires fits { from + count ≤ length (list_at self.old number) }
+        ensures lists { self.new.lists ≡ slice_set self.old.lists number
+            (with_values (list_at self.old number) from (F.values filler.now)) }
+        ensures room { self.new.room ≡ self.old.room }
+    {
+        fill_at(&mut self.items, &self.starts, number, from, count, filler);
+    }
+
     /// Replaces a list by one that has the value `count` times; all other lists stay. It
     /// moves what stands behind the list.
     pub fn replace(&mut self, number: usize, count: usize, value: T)
@@ -130,6 +143,26 @@ fn write_at<T: Copy>(items: &mut [T], starts: &[usize], number: usize, from: usi
 {
     let start = starts[number];
     put(items, start + from, values);
+}
+
+fn fill_at<T, F: Fill<T>>(
+    items: &mut [T],
+    starts: &[usize],
+    number: usize,
+    from: usize,
+    count: usize,
+    filler: &F,
+)
+    requires starts { AreStarts starts.now (length items.old) }
+    requires within { number + 1 < length starts.now }
+    requires count { count ≡ length (F.values filler.now) }
+    requires fits { from + count ≤ slice_index starts.now (number + 1) - slice_index starts.now number }
+    ensures { lists_of starts.now items.new
+        ≡ slice_set (lists_of starts.now items.old) number
+        (with_values (slice_index_or (lists_of starts.now items.old) number []) from (F.values filler.now)) }
+{
+    let start = starts[number];
+    fill_part(items, start + from, count, filler);
 }
 
 fn replace_at<T: Copy>(items: &mut [T], starts: &mut [usize], number: usize, count: usize, value: T)

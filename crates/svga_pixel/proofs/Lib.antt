@@ -1,0 +1,4 @@
+pub mod LanesOf
+pub mod MorePixels
+pub mod Pixels
+pub mod Widening
