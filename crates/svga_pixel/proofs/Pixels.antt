@@ -4,8 +4,9 @@ use Rattle.std.proofs.lemmas.List.{get_or-drop, get_or-take, get_or_append_left,
 use Rattle.std.proofs.lemmas.List.FromFn.{get_or-map-range_with_len, length-map-range_with_len}
 use Rattle.std.proofs.lemmas.Simd.{below_from_Fits, chunk-fits}
 use Rattle.std.specs.List.{range_with_len}
-use Rattle.svga_cmd.specs.declared.format.Format.TheVariants.{Bgr24, Rgb555, Rgb565}
-use Rattle.svga_model.specs.Colours.{colour_of, pixel_at, row_colours, word_from}
+use Rattle.svga_cmd.specs.declared.format.Format.{Format}
+use Rattle.svga_cmd.specs.declared.format.Format.TheVariants.{Bgrx32, Bgr24, Rgb555, Rgb565}
+use Rattle.svga_model.specs.Colours.{colour_of, pixel_at, pixel_length, row_colours, word_from}
 use Rattle.svga_pixel.proofs.LanesOf.{same_four, same_eight, words_of_bytes, short_words, two_bytes}
 use Rattle.svga_pixel.proofs.Widening.{small_555, small_565}
 use lib.Lanes.{chunk, digits_l, number_l}
@@ -70,25 +71,23 @@ eight_words bytes long fits =
     short_words (take 16 bytes) (below_from_Fits w8 (chunk 0 16 bytes) (chunk-fits w8 0 16 bytes fits))
     ∙ same_eight _ _ _ _ _ _ _ _ _ _ _ _ _ _ _ _ (word_at bytes 0 0 1 long (omega arith) refl refl) (word_at bytes 1 2 3 long (omega arith) refl refl) (word_at bytes 2 4 5 long (omega arith) refl refl) (word_at bytes 3 6 7 long (omega arith) refl refl) (word_at bytes 4 8 9 long (omega arith) refl refl) (word_at bytes 5 10 11 long (omega arith) refl refl) (word_at bytes 6 12 13 long (omega arith) refl refl) (word_at bytes 7 14 15 long (omega arith) refl refl)
 
+-- a byte of a pixel fits
+pixel_byte_small : (format : Format) (bytes : List ℕ) → ((i : ℕ) → Fits w8 (slice_index bytes i)) → (k i : ℕ) → i < pixel_length format → slice_index (pixel_at format bytes k) i < 256
+pixel_byte_small format bytes fits k i within =
+    let at = k * pixel_length format in
+    rw (get_or-take (at + pixel_length format - at) (drop at bytes) i 0 (omega arith), get_or-drop at bytes i 0) (fits (at + i)).fits
+
+of_three : (x y z : ℕ) → x < 256 → y < 256 → z < 256 → 65536 * z + 256 * y + x < 16777216
+of_three x y z small_x small_y small_z = omega arith
+
 -- the colour of a pixel is below 2 ^ 24
-small_24 : (bytes : List ℕ) → ((i : ℕ) → Fits w8 (slice_index bytes i)) → (k : ℕ) → colour_of Bgr24 (pixel_at Bgr24 bytes k) < 16777216
-small_24 bytes fits k =
-    let a = (fits (k * 3 + 0)).fits in
-    let b = (fits (k * 3 + 1)).fits in
-    let c = (fits (k * 3 + 2)).fits in
-    rw (colour_24 bytes k (k * 3 + 0) (k * 3 + 1) (k * 3 + 2) refl refl refl) (omega arith)
+small_colour : (format : Format) (bytes : List ℕ) → ((i : ℕ) → Fits w8 (slice_index bytes i)) → (k : ℕ) → colour_of format (pixel_at format bytes k) < 16777216
+small_colour Bgrx32 bytes fits k = of_three _ _ _ (pixel_byte_small Bgrx32 bytes fits k 0 (omega arith)) (pixel_byte_small Bgrx32 bytes fits k 1 (omega arith)) (pixel_byte_small Bgrx32 bytes fits k 2 (omega arith))
+small_colour Bgr24 bytes fits k = of_three _ _ _ (pixel_byte_small Bgr24 bytes fits k 0 (omega arith)) (pixel_byte_small Bgr24 bytes fits k 1 (omega arith)) (pixel_byte_small Bgr24 bytes fits k 2 (omega arith))
+small_colour Rgb565 bytes fits k = small_565 (word_from (pixel_at Rgb565 bytes k))
+small_colour Rgb555 bytes fits k = small_555 (word_from (pixel_at Rgb555 bytes k))
 
-pub colours_small_24 : (bytes : List ℕ) → ((i : ℕ) → Fits w8 (slice_index bytes i)) → (n : ℕ) → All (λ c. c < 16777216) (row_colours Bgr24 n bytes)
-colours_small_24 bytes fits n = λ k d few.
-    let within : k < n = omega (arith, length-map-range_with_len (λ j. colour_of Bgr24 (pixel_at Bgr24 bytes j)) 0 n) in
-    rw (get_or-map-range_with_len (λ j. colour_of Bgr24 (pixel_at Bgr24 bytes j)) 0 n k k d within (omega arith)) (small_24 bytes fits k)
-
-pub colours_small_565 : (bytes : List ℕ) (n : ℕ) → All (λ c. c < 16777216) (row_colours Rgb565 n bytes)
-colours_small_565 bytes n = λ k d few.
-    let within : k < n = omega (arith, length-map-range_with_len (λ j. colour_of Rgb565 (pixel_at Rgb565 bytes j)) 0 n) in
-    rw (get_or-map-range_with_len (λ j. colour_of Rgb565 (pixel_at Rgb565 bytes j)) 0 n k k d within (omega arith)) (small_565 (word_from (pixel_at Rgb565 bytes k)))
-
-pub colours_small_555 : (bytes : List ℕ) (n : ℕ) → All (λ c. c < 16777216) (row_colours Rgb555 n bytes)
-colours_small_555 bytes n = λ k d few.
-    let within : k < n = omega (arith, length-map-range_with_len (λ j. colour_of Rgb555 (pixel_at Rgb555 bytes j)) 0 n) in
-    rw (get_or-map-range_with_len (λ j. colour_of Rgb555 (pixel_at Rgb555 bytes j)) 0 n k k d within (omega arith)) (small_555 (word_from (pixel_at Rgb555 bytes k)))
+pub colours_small : (format : Format) (bytes : List ℕ) → ((i : ℕ) → Fits w8 (slice_index bytes i)) → (n : ℕ) → All (λ c. c < 16777216) (row_colours format n bytes)
+colours_small format bytes fits n = λ k d few.
+    let within : k < n = omega (arith, length-map-range_with_len (λ j. colour_of format (pixel_at format bytes j)) 0 n) in
+    rw (get_or-map-range_with_len (λ j. colour_of format (pixel_at format bytes j)) 0 n k k d within (omega arith)) (small_colour format bytes fits k)

@@ -15,7 +15,7 @@ mod start;
 mod wide;
 
 pub use pixel::{narrow, pixel_length, widen};
-pub use row::{read_row, write_row};
+pub use row::{read_row, row_facts, write_row};
 pub use start::pixel_start;
 
 #[cfg(test)]

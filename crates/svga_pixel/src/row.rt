@@ -38,6 +38,15 @@ pub fn write_row(format: Format, colours: &[u32], bytes: &mut [u8])
     }
 }
 
+/// What holds of each row of bytes, for whoever names its colours before they are read. It does nothing.
+pub fn row_facts(format: Format, bytes: &[u8], count: usize)
+    requires { length bytes.now ≡ count * pixel_length format }
+    ensures in_range { All (λ c. c < COLOURS) (row_colours format count bytes.now) }
+{
+    let _length = bytes.len();
+    let _format = format;
+}
+
 /// Reads a row pixel by pixel.
 pub(crate) fn read<L: Layout>(bytes: &[u8], colours: &mut [u32])
     requires { length bytes.now ≡ length colours.old * pixel_length L.format }

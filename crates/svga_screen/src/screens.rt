@@ -14,7 +14,7 @@ use std::alloc::{AllocError, Global};
 use std::marker::Model;
 use svga_cmd::constants::{COLOURS, MAX_PIXEL_BUDGET, SCREEN_IDS};
 use svga_cmd::{Fault, ScreenDef};
-use svga_rows::Rows;
+use svga_rows::{Fill, Rows};
 
 /// The screens of a device: their definitions, and list `id` of the pictures is that of the screen with
 /// this id.
@@ -124,6 +124,21 @@ impl Screens {
         if let Some(def) = self.defs.def(id) {
             let start = y as usize * def.width as usize + x as usize;
             self.pictures.write(id as usize, start, colours);
+        }
+    }
+
+    /// Lets a filler paint a part of row `y`, from `x` on, where it stands.
+    pub fn fill<F: Fill<u32>>(&mut self, id: u32, x: u32, y: u32, count: usize, filler: &F)
+        requires count { count ≡ length (F.values filler.now) }
+        requires on_screen { IsOnScreen (definitions_of self.old.screens id) x y
+            (length (F.values filler.now)) }
+        requires in_range { All (λ c. c < COLOURS) (F.values filler.now) }
+        ensures { self.new ≡ record self.old
+            { screens = painted self.old.screens id x y (F.values filler.now) } }
+    {
+        if let Some(def) = self.defs.def(id) {
+            let start = y as usize * def.width as usize + x as usize;
+            self.pictures.fill(id as usize, start, count, filler);
         }
     }
 

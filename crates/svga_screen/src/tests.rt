@@ -1,7 +1,21 @@
 //! Screens that are defined, painted and destroyed, and rectangles that are clipped.
+ghost use Rattle.std.specs.Prelude.{◌≡◌, replicate};
+
 use crate::{Area, Screens, clip};
 use std::alloc::AllocError;
 use svga_cmd::{Fault, Rect, ScreenDef};
+use svga_rows::Fill;
+
+/// Two pixels of one colour.
+struct Two;
+
+impl Fill<u32> for Two {
+    ghost values = { λ _. replicate 2 0x22 };
+
+    fn fill(&self, part: &mut [u32]) {
+        part.fill(0x22);
+    }
+}
 
 fn def(id: u32, width: u32, height: u32) -> ScreenDef {
     ScreenDef {
@@ -30,6 +44,18 @@ fn paint(screens: &mut Screens, id: u32, x: u32, y: u32, colours: &[u32]) -> boo
     true
 }
 
+/// Paints two pixels where they stand, if the screen has them, and says whether it does.
+fn fill_two(screens: &mut Screens, id: u32, x: u32, y: u32) -> bool {
+    let Some(def) = screens.def(id) else {
+        return false;
+    };
+    if y >= def.height || x as usize + 2 > def.width as usize {
+        return false;
+    }
+    screens.fill(id, x, y, 2, &Two);
+    true
+}
+
 /// Destroys the middle one of three screens: the other two keep their rows.
 #[test]
 fn others_stay(rt: HostRuntime) -> Result<(), AllocError> {
@@ -52,6 +78,8 @@ fn others_stay(rt: HostRuntime) -> Result<(), AllocError> {
     }
     assert_eq!(rt; screens.destroy(7), Err(Fault::NoScreen));
     assert_eq!(rt; screens.destroy(16), Err(Fault::ScreenId));
+    assert!(rt; fill_two(&mut screens, 15, 1, 0));
+    assert_eq!(rt; screens.row(15, 0), Some(&[0x30, 0x22, 0x22, 0xFFFFFF][..]));
     Ok(())
 }
 

@@ -3,7 +3,7 @@ use Rattle.svga_cmd.specs.declared.format.Format.TheVariants.{Bgr24}
 use Rattle.svga_model.specs.Colours.{row_colours}
 use Rattle.svga_pixel.proofs.LanesOf.{eight_lanes}
 use Rattle.svga_pixel.proofs.MorePixels.{rest_of, row_parts}
-use Rattle.svga_pixel.proofs.Pixels.{colours_small_24}
+use Rattle.svga_pixel.proofs.Pixels.{colours_small}
 use Rattle.svga_pixel.proofs.lanes.Bgr24Wide.read_eight.Goals as goal
 
 pub returns-clause-colours : goal.returns-clause-colours
@@ -13,4 +13,4 @@ returns-clause-colours c =
     rw (c.four.ensures, back, eight_lanes c.args.colours.now c.requires.eight) (sym (row_parts Bgr24 bytes 4 4))
 
 pub returns-clause-in_range : goal.returns-clause-in_range
-returns-clause-in_range c = rw (returns-clause-colours c) (colours_small_24 c.args.bytes.now c.type_inv.bytes 8)
+returns-clause-in_range c = rw (returns-clause-colours c) (colours_small Bgr24 c.args.bytes.now c.type_inv.bytes 8)

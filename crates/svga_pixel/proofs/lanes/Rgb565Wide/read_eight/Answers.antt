@@ -2,7 +2,7 @@ use Rattle.std.proofs.Common.{◌≡◌, ◌∙◌, ap, length, map, sym}
 use Rattle.std.proofs.lemmas.Simd.{put_chunk_whole}
 use Rattle.svga_cmd.specs.declared.format.Format.TheVariants.{Rgb565}
 use Rattle.svga_model.specs.Colours.{colour_in_565, row_colours}
-use Rattle.svga_pixel.proofs.Pixels.{colours_small_565}
+use Rattle.svga_pixel.proofs.Pixels.{colours_small}
 use Rattle.svga_pixel.proofs.lanes.Rgb565Wide.read_eight.Goals as goal
 
 pub returns-clause-colours : goal.returns-clause-colours
@@ -11,4 +11,4 @@ returns-clause-colours c =
     put_chunk_whole c.args.colours.now c.colours_of_565.result (c.requires.eight ∙ sym (ap length is)) ∙ is
 
 pub returns-clause-in_range : goal.returns-clause-in_range
-returns-clause-in_range c = rw (returns-clause-colours c) (colours_small_565 c.args.bytes.now 8)
+returns-clause-in_range c = rw (returns-clause-colours c) (colours_small Rgb565 c.args.bytes.now c.type_inv.bytes 8)
