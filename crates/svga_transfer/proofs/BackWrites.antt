@@ -70,7 +70,7 @@ first_writes screens g offset (p ∷ ps) q e =
     ap (λ r. writes_from (unsigned_abs offset) (bytes_of g.format (colour_on (map.get screens r.screen) r.x r.y))) same
 
 -- a row of colours has the bytes of so many pixels
-length-row_bytes : (format : Format) (colours : List ℕ)
+pub length-row_bytes : (format : Format) (colours : List ℕ)
     → length (row_bytes format colours) ≡ length colours * pixel_length format
 length-row_bytes format [] = let none = zero-mul (pixel_length format) in omega arith
 length-row_bytes format (c ∷ cs) =
@@ -99,6 +99,9 @@ module _ (screens : Screens) (g : Gmrfb) (b : Blit) (Y : ℤ) (r : Run) (row : L
   count =
       let long = long_enough (definitions_of screens r.screen) row r.x r.length r.y wide run.shown in
       omega (arith, length-take (r.x + r.length - r.x) (drop r.x row), length-drop r.x row)
+
+  pub run_pixels : length colours * pixel_length g.format ≡ r.length * pixel_length g.format
+  run_pixels = ap (λ n. n * pixel_length g.format) count
 
   pub run_bytes : length (row_bytes g.format colours) ≡ r.length * pixel_length g.format
   run_bytes = length-row_bytes g.format colours ∙ ap (λ n. n * pixel_length g.format) count

@@ -1,8 +1,7 @@
 -- The colours of pixels whose bytes were read.
-use Rattle.std.proofs.Common.{◌≡◌, ℕ, ◌+◌, ◌*◌, ◌<◌, ◌≤◌, refl, sym, ap, ◌∙◌, List, length, map as map_list, slice_index, take, ◌++◌, arith}
+use Rattle.std.proofs.Common.{◌≡◌, ℕ, ◌+◌, ◌*◌, ◌<◌, ◌≤◌, refl, sym, ap, ◌∙◌, List, length, map as map_list, slice_index, arith}
 use Rattle.std.proofs.Math.Nat.{mul-le-mul_left}
 use Rattle.std.proofs.lemmas.Grind.{same_number_lists}
-use Rattle.std.proofs.lemmas.List.{take_at}
 use Rattle.std.proofs.lemmas.List.Edits.{get_or-between, length-between}
 use Rattle.std.proofs.lemmas.List.FromFn.{get_or-map-range_with_len, length-map-range_with_len}
 use Rattle.std.specs.List.{range_with_len}
@@ -46,28 +45,7 @@ module _ (format : Format) (bytes : ℕ → ℕ) (from count : ℕ) where
           ∙ sym (get_or-map-range_with_len bytes (from + k * n) n j (from + k * n + j) 0 below refl)
 
   -- the colours of a row of these bytes
-  colours_read : row_colours format count read ≡ colours_from bytes format from count
+  pub colours_read : row_colours format count read ≡ colours_from bytes format from count
   colours_read = same_map (λ k. colour_of format (pixel_at format read k))
       (λ k. colour_at bytes format (from + k * pixel_length format)) 0 count
       (λ k low high. ap (colour_of format) (pixel_read k (omega arith)))
-
--- The same where both lists stand in the front of longer ones.
-pub colours_in_front : (format : Format) (bytes : ℕ → ℕ) (from count k m j : ℕ) (read rest new behind : List ℕ)
-    → k ≡ count * pixel_length format → m ≡ count → j ≡ k → read ≡ map_list bytes (range_with_len from j)
-    → new ≡ row_colours format m (take k (read ++ rest))
-    → take count (new ++ behind) ≡ colours_from bytes format from count
-colours_in_front format bytes from count k m j read rest new behind all sized whole is shown =
-    take_at new behind count (ap length colours ∙ length-map-range_with_len colour 0 count) ∙ colours
-  where
-    colour : ℕ → ℕ
-    colour i = colour_at bytes format (from + i * pixel_length format)
-
-    bytes_read : read ≡ map_list bytes (range_with_len from (count * pixel_length format))
-    bytes_read = is ∙ ap (λ n. map_list bytes (range_with_len from n)) (whole ∙ all)
-
-    long : length read ≡ k
-    long = ap length is ∙ length-map-range_with_len bytes from j ∙ whole
-
-    colours : new ≡ colours_from bytes format from count
-    colours = shown ∙ (λ i. row_colours format (sized i) (take_at read rest k long i))
-        ∙ ap (row_colours format count) bytes_read ∙ colours_read format bytes from count

@@ -10,12 +10,11 @@ ghost use Rattle.svga_transfer.specs.Backs.{writes_along};
 ghost use Rattle.svga_transfer.specs.Reach.{AreMapped, HasPages};
 ghost use Rattle.svga_transfer.specs.Runs.{IsRun};
 
-use crate::bytes::write_bytes;
+use crate::colours::write_colours;
 use crate::room::RowRoom;
 use crate::runs::{Run, next_row, next_run};
 use crate::start::first_byte;
 use svga_cmd::{Blit, Gmrfb, PageStore};
-use svga_pixel::{pixel_length, write_row};
 use svga_region::Regions;
 use svga_screen::Screens;
 
@@ -102,9 +101,8 @@ fn back_run<P: PageStore>(
     if let Some(row) = screens.row(run.screen, run.y) {
         let count = run.length as usize;
         let first = run.x as usize;
-        let bytes = &mut room.bytes[..count * pixel_length(gmrfb.format)];
-        write_row(gmrfb.format, &row[first..first + count], bytes);
         let from = first_byte(regions, gmrfb, blit, run.from, y);
-        write_bytes(regions, store, gmrfb.region, from, bytes);
+        let colours = &row[first..first + count];
+        write_colours(regions, store, gmrfb, from, colours, &mut room.bytes);
     }
 }

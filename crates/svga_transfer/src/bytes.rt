@@ -1,5 +1,5 @@
 //! Bytes of a region, page by page.
-ghost use Rattle.std.specs.Prelude.{◌≡◌, ◌+◌, ◌-◌, ◌%◌, ◌<◌, ◌≤◌, ◌^◌, ◌++◌, IsSome, Some, drop, length, map as map_list, min, take};
+ghost use Rattle.std.specs.Prelude.{◌≡◌, ◌+◌, ◌-◌, ◌%◌, ◌<◌, ◌≤◌, ◌^◌, ◌++◌, IfSome, IsSome, IsTrue, Some, drop, length, map as map_list, min, take};
 ghost use Rattle.std.specs.List.{range_with_len};
 ghost use Rattle.svga_model.specs.Memories.{writes_from, written};
 ghost use Rattle.svga_model.specs.RegionBytes.{page_of_byte};
@@ -11,7 +11,7 @@ use svga_cmd::{PageKey, PageStore};
 use svga_region::Regions;
 
 /// The page that a mapped byte lies on, and the byte's number there.
-fn locate(regions: &Regions, region: u32, at: u64) -> (PageKey, usize)
+pub(crate) fn locate(regions: &Regions, region: u32, at: u64) -> (PageKey, usize)
     requires mapped { IsSome (page_of_byte (places_in regions.now region) at) }
     ensures page { page_of_byte (places_in regions.now region) at ≡ Some result.0 }
     ensures start { result.1 ≡ at % PAGE_SIZE }
@@ -62,6 +62,58 @@ pub fn read_bytes<P: PageStore>(
     while done < bytes.len() {
         let at = from + done as u64;
         done += read_piece(regions, store, region, at, &mut bytes[done..]);
+    }
+}
+
+/// Whether there are so many bytes, and they lie on one page from byte `from` of a region on.
+pub(crate) fn is_on_one_page(from: u64, count: usize) -> bool
+    ensures { IsTrue result → (0 < count) × (from % PAGE_SIZE + count ≤ PAGE_SIZE) }
+{
+    0 < count && count <= PAGE_SIZE && from % PAGE_SIZE as u64 <= (PAGE_SIZE - count) as u64
+}
+
+/// `count` bytes of a region from byte `from` on, where they lie on one page.
+fn on_one_page<'a, P: PageStore>(
+    regions: &Regions,
+    store: &'a P,
+    region: u32,
+    from: u64,
+    count: usize,
+) -> Option<&'a [u8]>
+    requires there { HasBytes (P.pages store.now) (places_in regions.now region) from count }
+    ensures { IfSome result (λ bytes. bytes.now
+        ≡ map_list (byte_in (P.pages store.now) regions.now region) (range_with_len from count)) }
+{
+    if !is_on_one_page(from, count) {
+        return None;
+    }
+    let (key, start) = locate(regions, region, from);
+    let page = store.page(key).bytes();
+    Some(&page[start..start + count])
+}
+
+/// `count` bytes of a region from byte `from` on: where they lie, or else, if they lie on several pages,
+/// together in the room.
+pub(crate) fn bytes_together<'a, P: PageStore>(
+    regions: &Regions,
+    store: &'a P,
+    region: u32,
+    from: u64,
+    count: usize,
+    room: &'a mut [u8],
+) -> &'a [u8]
+    requires room { count ≤ length room.old }
+    requires there { HasBytes (P.pages store.now) (places_in regions.now region) from count }
+    ensures { result.now
+        ≡ map_list (byte_in (P.pages store.now) regions.now region) (range_with_len from count) }
+{
+    match on_one_page(regions, store, region, from, count) {
+        Some(bytes) => bytes,
+        None => {
+            let bytes = &mut room[..count];
+            read_bytes(regions, store, region, from, bytes);
+            bytes
+        }
     }
 }
 

@@ -6,8 +6,10 @@
 
 mod back;
 mod bytes;
+mod colours;
 mod meant;
 mod paint;
+mod pixel_row;
 mod room;
 mod runs;
 mod start;

@@ -12,14 +12,15 @@ ghost use Rattle.svga_transfer.specs.Areas.{ArePainted, IsPainted};
 ghost use Rattle.svga_transfer.specs.Painting.{IsRepainted, colours_from};
 ghost use Rattle.svga_transfer.specs.Reach.{AreMapped, HasBytes, HasPages, byte_in, blit_colour_in};
 
-use crate::bytes::read_bytes;
+use crate::bytes::bytes_together;
 use crate::meant::{corner_of, is_meant};
+use crate::pixel_row::PixelRow;
 use crate::room::RowRoom;
 use crate::start::first_byte;
 use arrayvec::ArrayVec;
-use svga_cmd::constants::{COLOURS, MAX_SCREEN_SIDE};
+use svga_cmd::constants::MAX_SCREEN_SIDE;
 use svga_cmd::{Blit, Gmrfb, PageStore, ScreenDef};
-use svga_pixel::{pixel_length, read_row};
+use svga_pixel::{pixel_length, row_facts};
 use svga_region::Regions;
 use svga_screen::{Area, Screens, clip, place};
 
@@ -155,38 +156,13 @@ fn paint_row<P: PageStore>(
     } }
 {
     let width = area.width as usize;
-    read_colours(
-        regions,
-        store,
-        gmrfb,
-        from,
-        width,
-        &mut room.colours,
-        &mut room.bytes,
-    );
-    screens.paint(area.screen, area.left, row, &room.colours[..width]);
-}
-
-/// Reads the colours of `width` pixels that stand one behind another in the GMRFB's region from byte `from`
-/// on.
-fn read_colours<P: PageStore>(
-    regions: &Regions,
-    store: &P,
-    gmrfb: &Gmrfb,
-    from: u64,
-    width: usize,
-    colours: &mut [u32],
-    bytes: &mut [u8],
-)
-    requires colours { width ≤ length colours.old }
-    requires bytes { width * bytes_per_pixel gmrfb.now.format ≤ length bytes.old }
-    requires there { HasBytes (P.pages store.now) (places_in regions.now gmrfb.now.region) from
-        (width * bytes_per_pixel gmrfb.now.format) }
-    ensures colours { take width colours.new ≡ colours_from
-        (byte_in (P.pages store.now) regions.now gmrfb.now.region) gmrfb.now.format from width }
-    ensures in_range { All (λ c. c < COLOURS) (take width colours.new) }
-{
     let count = width * pixel_length(gmrfb.format);
-    read_bytes(regions, store, gmrfb.region, from, &mut bytes[..count]);
-    read_row(gmrfb.format, &bytes[..count], &mut colours[..width]);
+    let bytes = bytes_together(regions, store, gmrfb.region, from, count, &mut room.bytes);
+    row_facts(gmrfb.format, bytes, width);
+    let pixels = PixelRow {
+        format: gmrfb.format,
+        count: width,
+        bytes,
+    };
+    screens.fill(area.screen, area.left, row, width, &pixels);
 }

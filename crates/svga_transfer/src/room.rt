@@ -5,10 +5,9 @@ use std::alloc::{AllocError, Global};
 use std::marker::Model;
 use svga_cmd::constants::MAX_SCREEN_SIDE;
 
-/// Room for the colours of the longest row of a screen, 8,192 pixels, and for their bytes in any format.
+/// Room for the bytes of the longest row of a screen, 8,192 pixels, in any format.
 #[derive(Drop)]
 pub struct RowRoom {
-    pub(crate) colours: Vec<u32>,
     pub(crate) bytes: Vec<u8>,
 }
 
@@ -20,15 +19,13 @@ impl Model for RowRoom {
 
     ghost view = { λ _. tt };
 
-    ghost invariant = { λ room. (length room.colours.items ≡ MAX_SCREEN_SIDE)
-        × (length room.bytes.items ≡ 4 * MAX_SCREEN_SIDE) };
+    ghost invariant = { λ room. length room.bytes.items ≡ 4 * MAX_SCREEN_SIDE };
 }
 
 impl RowRoom {
     /// The only call of this crate that takes memory.
     pub fn new(alloc: Global) -> Result<RowRoom, AllocError> {
-        let colours = vec![in alloc; 0; MAX_SCREEN_SIDE as usize]?;
         let bytes = vec![in alloc; 0; 4 * MAX_SCREEN_SIDE as usize]?;
-        Ok(RowRoom { colours, bytes })
+        Ok(RowRoom { bytes })
     }
 }
