@@ -56,8 +56,7 @@ pub fn client_follows()
 {}
 
 /// What the driver may do for a call that isn't refused: its act is admissible after all acts and touches
-/// lent
-/// pages alone, and no command that isn't known to be done touches a page that is taken back.
+/// lent pages alone, and no command that isn't known to be done touches a page that is taken back.
 pub fn driver_may()
     ensures commit { (l : Limits) (c : Client) (k : Known) (command : Command) → IsFollowed l c k
         → refusal_of c (Commit command) ≡ None → IsAdmissible (state_of l c k) (Do command) }

@@ -2,8 +2,7 @@
 //! later.
 //!
 //! A client's state knows no ring, no thread and no slot (`Clients` of svga_model). A driver knows its acts,
-//! which
-//! of them are known to be done, the pages that are lent and those that are with it, with their bytes
+//! which of them are known to be done, the pages that are lent and those that are with it, with their bytes
 //! (`Following`). The laws tie the two together; no function here does anything.
 #![tactic(auto)]
 

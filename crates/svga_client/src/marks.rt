@@ -12,8 +12,7 @@ ghost use Rattle.svga_model.specs.Touches.{Touches};
 /// How many fences there are up to the first one behind a command.
 pub fn fences_behind()
     // It is one more than there are as the command is committed, which is no fence where it touches a page,
-    // and
-    // stays so.
+    // and stays so.
     ensures last { (cs : List Command) (c : Command) → fence_value c ≡ None
         → fence_behind (cs ++ c ∷ []) (length cs) ≡ suc (length (fences cs)) }
     ensures touching { (s : State) (c : Command) (key : PageKey) → Touches s (Do c) key
