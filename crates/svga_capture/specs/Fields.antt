@@ -5,7 +5,7 @@ use Rattle.svga_cmd.specs.declared.constants.TheConstants.{MAX_INPUT_BYTES}
 use Rattle.svga_model.specs.CaptureFields.{limits_in, min_in, next_in, page_count, pages_at, region_count, ring_end, stop_in}
 use Rattle.svga_model.specs.Captures.{fence_in, flaw_in}
 use Rattle.svga_capture.specs.Rings.{IsRing}
-use Rattle.svga_capture.specs.declared.layout.TheConstants.{FIFO_AT}
+use Rattle.svga_cmd.specs.declared.capture_layout.TheConstants.{FIFO_AT}
 use Rattle.svga_capture.specs.declared.fields.Fields.{Fields}
 use Rattle.svga_capture.specs.declared.header.Header.{Header}
 use Rattle.svga_capture.specs.declared.ring.Ring.{Ring}

@@ -4,7 +4,7 @@ use Rattle.std.specs.FinMap as map
 use Rattle.svga_cmd.specs.declared.constants.TheConstants.{MAX_PLACES, MAX_REGION_ID, UNMAPPED_WORD}
 use Rattle.svga_model.specs.CaptureFields.{record_at}
 use Rattle.svga_model.specs.Regions.{Regions, place_count, with_remap}
-use Rattle.svga_capture.specs.declared.layout.TheConstants.{PLACES_OFFSET, WORD_SIZE}
+use Rattle.svga_cmd.specs.declared.capture_layout.TheConstants.{PLACES_OFFSET, WORD_SIZE}
 use Rattle.svga_model.specs.Walks.{little_word}
 
 -- the word is that of a place: a guest page's number, or that of an unmapped place

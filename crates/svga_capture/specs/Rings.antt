@@ -1,7 +1,7 @@
 -- What is known of the ring of a capture.
 use Rattle.std.specs.Prelude.{◌≡◌, ◌%◌, ◌<◌, ◌≤◌}
 use Rattle.svga_cmd.specs.declared.constants.TheConstants.{MAX_CAPTURE_END}
-use Rattle.svga_capture.specs.declared.layout.TheConstants.{RING_WORDS_SIZE}
+use Rattle.svga_cmd.specs.declared.capture_layout.TheConstants.{RING_WORDS_SIZE}
 use Rattle.svga_capture.specs.declared.ring.Ring.{Ring}
 
 -- Its four numbers are of whole dwords; it begins behind them, and both ends of the words that

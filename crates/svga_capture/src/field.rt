@@ -6,9 +6,9 @@ ghost use Rattle.svga_model.specs.CaptureFields.{flaw_of, is_above, is_between, 
 ghost use Rattle.svga_model.specs.Walks.{little_word};
 
 use crate::fault::Wrong;
-use crate::layout::WORD_SIZE;
 use byteorder::{ByteOrder, LittleEndian};
 use svga_cmd::CaptureCause;
+use svga_cmd::capture_layout::WORD_SIZE;
 use svga_cmd::constants::MAX_INPUT_BYTES;
 
 /// That a field of so many bytes from byte `at` on is there.

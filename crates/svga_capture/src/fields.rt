@@ -7,10 +7,10 @@ ghost use Rattle.svga_model.specs.Captures.{flaw_in};
 use crate::fault::Wrong;
 use crate::field::holds;
 use crate::header::read_header;
-use crate::layout::FIFO_AT;
 use crate::pages::judge_pages;
 use crate::regions::judge_regions;
 use crate::ring::{Ring, read_fence, read_ring};
+use svga_cmd::capture_layout::FIFO_AT;
 use svga_cmd::constants::MAX_INPUT_BYTES;
 use svga_cmd::{CaptureCause, Limits};
 

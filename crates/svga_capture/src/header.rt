@@ -9,7 +9,7 @@ ghost use Rattle.svga_model.specs.Walks.{little_word};
 
 use crate::fault::Wrong;
 use crate::field::{holds, number, number_between};
-use crate::layout::{
+use svga_cmd::capture_layout::{
     BUDGET_AT, FRAME_HEIGHT_AT, FRAME_WIDTH_AT, GUEST_PAGES_AT, LETTERS_AT, MAX_AT, PAGE_COUNT_AT,
     REGION_COUNT_AT, VERSION_AT, WORD_SIZE,
 };

@@ -8,7 +8,6 @@ mod fault;
 mod field;
 mod fields;
 mod header;
-mod layout;
 mod opening;
 mod pages;
 mod regions;

@@ -15,10 +15,10 @@ ghost use Rattle.svga_capture.specs.Openings.{IsNextRecord, IsPlaceWord, with_pl
 
 use crate::field::word;
 use crate::fields::Fields;
-use crate::layout::{PAGE_OFFSET, PLACES_OFFSET, WORD_SIZE};
 use crate::pages::page_record;
 use crate::regions::RegionRecord;
 use std::alloc::{AllocError, Global};
+use svga_cmd::capture_layout::{PAGE_OFFSET, PLACES_OFFSET, WORD_SIZE};
 use svga_cmd::constants::{
     FRAME_KEY, MAX_INPUT_BYTES, MAX_REGION_ID, PAGE_RECORD_SIZE, UNMAPPED_WORD,
 };

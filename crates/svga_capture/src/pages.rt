@@ -9,7 +9,7 @@ ghost use Rattle.svga_model.specs.Walks.{little_word};
 use crate::fault::Wrong;
 use crate::field::{comes_after, holds, number, there};
 use crate::fields::Records;
-use crate::layout::PAGE_OFFSET;
+use svga_cmd::capture_layout::PAGE_OFFSET;
 use svga_cmd::constants::{FRAME_KEY, MAX_INPUT_BYTES, PAGE_RECORD_SIZE, PAGE_SIZE};
 use svga_cmd::{CaptureCause, Limits};
 

@@ -9,8 +9,8 @@ ghost use Rattle.svga_model.specs.Walks.{little_word};
 use crate::fault::Wrong;
 use crate::field::{comes_after, holds, number, word};
 use crate::fields::Records;
-use crate::layout::{COUNT_OFFSET, FIFO_AT, PLACES_OFFSET, WORD_SIZE};
 use svga_cmd::CaptureCause;
+use svga_cmd::capture_layout::{COUNT_OFFSET, FIFO_AT, PLACES_OFFSET, WORD_SIZE};
 use svga_cmd::constants::{MAX_INPUT_BYTES, MAX_PLACES, MAX_REGION_ID, UNMAPPED_WORD};
 
 /// A region's record: the byte at which it begins, the id, and how many places follow.

@@ -10,10 +10,10 @@ ghost use Rattle.svga_model.specs.Walks.{little_word};
 
 use crate::fault::Wrong;
 use crate::field::{holds, number, there, word};
-use crate::layout::{
+use svga_cmd::CaptureCause;
+use svga_cmd::capture_layout::{
     FENCE_OFFSET, FIFO_AT, FIFO_MAX_AT, FIFO_REST_AT, MIN_AT, NEXT_CMD_AT, RING_WORDS_SIZE, STOP_AT,
 };
-use svga_cmd::CaptureCause;
 use svga_cmd::constants::{MAX_CAPTURE_END, MAX_INPUT_BYTES, MIN_CAPTURE_END};
 
 /// The ring: from byte `min` of the FIFO's memory to byte `max`, where words wait from `stop` to `next`.

@@ -1,5 +1,5 @@
 //! The commands of the SVGA II FIFO as values, the one spelling of each as
-//! words, and the field's numbers by name.
+//! words, the field's numbers by name, and where the fields of a capture stand.
 //!
 //! Every other crate speaks of commands, pages, faults, causes and endings by these types. Contracts see them
 //! as plain data: an enum by its variants, a struct by its fields, a list of numbers as that list.
@@ -7,6 +7,7 @@
 
 mod blit;
 mod capture_cause;
+pub mod capture_layout;
 mod cause;
 mod command;
 pub mod constants;

@@ -6,7 +6,8 @@ use Rattle.svga_cmd.specs.Limits.{frame_page_count}
 use Rattle.svga_cmd.specs.Pages.{is_key}
 use Rattle.svga_cmd.specs.declared.capture_cause.CaptureCause.{CaptureCause}
 use Rattle.svga_cmd.specs.declared.capture_cause.CaptureCause.TheVariants.{Magic, Number, Order, Short, Version}
-use Rattle.svga_cmd.specs.declared.constants.TheConstants.{CAPTURE_LETTERS, FRAME_KEY, MAX_CAPTURE_END, MAX_FRAME_HEIGHT, MAX_FRAME_WIDTH, MAX_GUEST_PAGES, MAX_PIXEL_BUDGET, MAX_PLACES, MAX_REGION_ID, MIN_CAPTURE_END, PAGE_RECORD_SIZE, PAGE_SIZE, REGION_IDS, SVGA_FIFO_MIN, SVGA_FIFO_NEXT_CMD, SVGA_FIFO_STOP, UNMAPPED_WORD}
+use Rattle.svga_cmd.specs.declared.capture_layout.TheConstants.{BUDGET_AT, COUNT_OFFSET, FIFO_AT, FIFO_MAX_AT, FIFO_REST_AT, FRAME_HEIGHT_AT, FRAME_WIDTH_AT, GUEST_PAGES_AT, LETTERS_AT, MAX_AT, MIN_AT, NEXT_CMD_AT, PAGE_COUNT_AT, PAGE_OFFSET, PLACES_OFFSET, REGION_COUNT_AT, RING_WORDS_SIZE, STOP_AT, VERSION_AT, WORD_SIZE}
+use Rattle.svga_cmd.specs.declared.constants.TheConstants.{CAPTURE_LETTERS, FRAME_KEY, MAX_CAPTURE_END, MAX_FRAME_HEIGHT, MAX_FRAME_WIDTH, MAX_GUEST_PAGES, MAX_PIXEL_BUDGET, MAX_PLACES, MAX_REGION_ID, MIN_CAPTURE_END, PAGE_RECORD_SIZE, PAGE_SIZE, REGION_IDS, UNMAPPED_WORD}
 use Rattle.svga_cmd.specs.declared.limits.Limits.{Limits}
 use Rattle.svga_cmd.specs.declared.page.PageKey.{PageKey}
 use Rattle.svga_cmd.specs.declared.page.PageKey.TheVariants.{Guest, Frame}
@@ -26,7 +27,7 @@ flaw_unless holds cause = if holds then None else Some cause
 -- a field of one word with a rule on its number
 abbrev pub word_field : List ℕ → ℕ → (ℕ → Bool) → Field
 word_field bytes at rule =
-    record { at = at; size = 4; breaks = flaw_unless (rule (little_word bytes at)) Number }
+    record { at = at; size = WORD_SIZE; breaks = flaw_unless (rule (little_word bytes at)) Number }
 
 -- it is above the last one, if there is one
 abbrev pub is_above : Option ℕ → ℕ → Bool
@@ -38,7 +39,11 @@ is_above (Some last) n = nat_lt last n
 abbrev pub ordered_field : List ℕ → ℕ → Option ℕ → (ℕ → Bool) → Field
 ordered_field bytes at last rule =
     let n = little_word bytes at in
-    record { at = at; size = 4; breaks = if rule n then flaw_unless (is_above last n) Order else Some Number }
+    record {
+      at = at;
+      size = WORD_SIZE;
+      breaks = if rule n then flaw_unless (is_above last n) Order else Some Number;
+    }
 
 -- a number from `low` to `high`, both allowed
 abbrev pub is_between : ℕ → ℕ → ℕ → Bool
@@ -50,49 +55,53 @@ is_whole n = n % 4 == 0
 
 -- What the header says: where the ring ends, the limits, and how many regions and pages have records.
 abbrev pub ring_end : List ℕ → ℕ
-ring_end bytes = little_word bytes 8
+ring_end bytes = little_word bytes MAX_AT
 
 abbrev pub limits_in : List ℕ → Limits
 limits_in bytes = record {
-  pages = little_word bytes 12;
-  gfb_width = little_word bytes 16;
-  gfb_height = little_word bytes 20;
-  budget = little_word bytes 24;
+  pages = little_word bytes GUEST_PAGES_AT;
+  gfb_width = little_word bytes FRAME_WIDTH_AT;
+  gfb_height = little_word bytes FRAME_HEIGHT_AT;
+  budget = little_word bytes BUDGET_AT;
 }
 
 abbrev pub region_count : List ℕ → ℕ
-region_count bytes = little_word bytes 28
+region_count bytes = little_word bytes REGION_COUNT_AT
 
 abbrev pub page_count : List ℕ → ℕ
-page_count bytes = little_word bytes 32
+page_count bytes = little_word bytes PAGE_COUNT_AT
 
 -- the letters SVGF, the version, and these numbers
 abbrev pub header_fields : List ℕ → List Field
 header_fields bytes =
     let l = limits_in bytes in
-    record { at = 0; size = 4; breaks = flaw_unless (little_word bytes 0 == CAPTURE_LETTERS) Magic }
-    ∷ record { at = 4; size = 4; breaks = flaw_unless (little_word bytes 4 == 1) Version }
-    ∷ word_field bytes 8 (λ n. is_whole n && is_between MIN_CAPTURE_END MAX_CAPTURE_END n)
-    ∷ word_field bytes 12 (is_between 1 MAX_GUEST_PAGES)
-    ∷ word_field bytes 16 (is_between 1 MAX_FRAME_WIDTH)
-    ∷ word_field bytes 20 (is_between 1 MAX_FRAME_HEIGHT)
-    ∷ word_field bytes 24 (is_between 1 MAX_PIXEL_BUDGET)
-    ∷ word_field bytes 28 (λ n. nat_le n REGION_IDS)
-    ∷ word_field bytes 32 (λ n. nat_le n (l.pages + frame_page_count l)) ∷ []
-
--- a word of the FIFO's memory
-abbrev pub fifo_word : List ℕ → ℕ → ℕ
-fifo_word bytes k = little_word bytes (36 + 4 * k)
+    record {
+      at = LETTERS_AT;
+      size = WORD_SIZE;
+      breaks = flaw_unless (little_word bytes LETTERS_AT == CAPTURE_LETTERS) Magic;
+    }
+    ∷ record {
+      at = VERSION_AT;
+      size = WORD_SIZE;
+      breaks = flaw_unless (little_word bytes VERSION_AT == 1) Version;
+    }
+    ∷ word_field bytes MAX_AT (λ n. is_whole n && is_between MIN_CAPTURE_END MAX_CAPTURE_END n)
+    ∷ word_field bytes GUEST_PAGES_AT (is_between 1 MAX_GUEST_PAGES)
+    ∷ word_field bytes FRAME_WIDTH_AT (is_between 1 MAX_FRAME_WIDTH)
+    ∷ word_field bytes FRAME_HEIGHT_AT (is_between 1 MAX_FRAME_HEIGHT)
+    ∷ word_field bytes BUDGET_AT (is_between 1 MAX_PIXEL_BUDGET)
+    ∷ word_field bytes REGION_COUNT_AT (λ n. nat_le n REGION_IDS)
+    ∷ word_field bytes PAGE_COUNT_AT (λ n. nat_le n (l.pages + frame_page_count l)) ∷ []
 
 -- MIN, NEXT_CMD and STOP
 abbrev pub min_in : List ℕ → ℕ
-min_in bytes = fifo_word bytes SVGA_FIFO_MIN
+min_in bytes = little_word bytes MIN_AT
 
 abbrev pub next_in : List ℕ → ℕ
-next_in bytes = fifo_word bytes SVGA_FIFO_NEXT_CMD
+next_in bytes = little_word bytes NEXT_CMD_AT
 
 abbrev pub stop_in : List ℕ → ℕ
-stop_in bytes = fifo_word bytes SVGA_FIFO_STOP
+stop_in bytes = little_word bytes STOP_AT
 
 -- an offset of the ring: of whole dwords, from MIN on and below MAX
 abbrev pub is_ring_offset : List ℕ → ℕ → Bool
@@ -101,11 +110,11 @@ is_ring_offset bytes n = is_whole n && nat_le (min_in bytes) n && nat_lt n (ring
 -- the FIFO's memory: MIN, MAX again, NEXT_CMD, STOP, and the rest, on which there is no rule
 abbrev pub fifo_fields : List ℕ → List Field
 fifo_fields bytes =
-    word_field bytes 36 (λ n. is_whole n && nat_le 16 n && nat_lt n (ring_end bytes))
-    ∷ word_field bytes 40 (λ n. n == ring_end bytes)
-    ∷ word_field bytes 44 (is_ring_offset bytes)
-    ∷ word_field bytes 48 (is_ring_offset bytes)
-    ∷ record { at = 52; size = ring_end bytes - 16; breaks = None } ∷ []
+    word_field bytes MIN_AT (λ n. is_whole n && nat_le RING_WORDS_SIZE n && nat_lt n (ring_end bytes))
+    ∷ word_field bytes FIFO_MAX_AT (λ n. n == ring_end bytes)
+    ∷ word_field bytes NEXT_CMD_AT (is_ring_offset bytes)
+    ∷ word_field bytes STOP_AT (is_ring_offset bytes)
+    ∷ record { at = FIFO_REST_AT; size = ring_end bytes - RING_WORDS_SIZE; breaks = None } ∷ []
 
 -- a region's record: its first byte, the id, and how many places follow
 pub record RegionRecord : Type 0 where
@@ -115,10 +124,14 @@ pub record RegionRecord : Type 0 where
 
 -- how many bytes it has
 abbrev pub record_size : RegionRecord → ℕ
-record_size r = 8 + 4 * r.count
+record_size r = PLACES_OFFSET + WORD_SIZE * r.count
 
 abbrev pub record_at : List ℕ → ℕ → RegionRecord
-record_at bytes at = record { at = at; id = little_word bytes at; count = little_word bytes (at + 4) }
+record_at bytes at = record {
+  at = at;
+  id = little_word bytes at;
+  count = little_word bytes (at + COUNT_OFFSET);
+}
 
 -- so many records from a byte on
 abbrev pub records_from : List ℕ → ℕ → ℕ → List RegionRecord
@@ -128,20 +141,20 @@ records_from bytes (suc n) at =
 
 -- those of a capture, which stand behind the FIFO's memory
 abbrev pub region_records : List ℕ → List RegionRecord
-region_records bytes = records_from bytes (region_count bytes) (36 + ring_end bytes)
+region_records bytes = records_from bytes (region_count bytes) (FIFO_AT + ring_end bytes)
 
 -- the word of place k, where that of place 0 stands at this byte
 abbrev pub place_field : List ℕ → ℕ → ℕ → Field
 place_field bytes at k =
-    word_field bytes (at + 4 * k) (λ n. nat_lt n (limits_in bytes).pages || n == UNMAPPED_WORD)
+    word_field bytes (at + WORD_SIZE * k) (λ n. nat_lt n (limits_in bytes).pages || n == UNMAPPED_WORD)
 
 -- The fields of a region's record. The regions before it have `total` places, and the last of
 -- those has the id `last`, if there is one.
 abbrev pub record_fields : List ℕ → ℕ → Option ℕ → RegionRecord → List Field
 record_fields bytes total last r =
     ordered_field bytes r.at last (λ n. nat_le n MAX_REGION_ID)
-    ∷ word_field bytes (r.at + 4) (λ n. nat_le 1 n && nat_le (total + n) MAX_PLACES)
-    ∷ map_list (place_field bytes (r.at + 8)) (range_with_len 0 r.count)
+    ∷ word_field bytes (r.at + COUNT_OFFSET) (λ n. nat_le 1 n && nat_le (total + n) MAX_PLACES)
+    ∷ map_list (place_field bytes (r.at + PLACES_OFFSET)) (range_with_len 0 r.count)
 
 -- those of these regions' records, behind such regions
 abbrev pub region_fields : List ℕ → ℕ → Option ℕ → List RegionRecord → List Field
@@ -149,9 +162,9 @@ region_fields bytes total last [] = []
 region_fields bytes total last (r ∷ rs) =
     record_fields bytes total last r ++ region_fields bytes (total + r.count) (Some r.id) rs
 
--- where the pages' records begin, and where record j does: a key, and then 4,096 bytes
+-- where the pages' records begin, and where record j does: a key, and then the page
 abbrev pub pages_at : List ℕ → ℕ
-pages_at bytes = 36 + ring_end bytes + sum_by record_size (region_records bytes)
+pages_at bytes = FIFO_AT + ring_end bytes + sum_by record_size (region_records bytes)
 
 abbrev pub page_record_at : List ℕ → ℕ → ℕ
 page_record_at bytes j = pages_at bytes + PAGE_RECORD_SIZE * j
@@ -170,7 +183,7 @@ page_fields bytes =
     flat_map (λ j.
     ordered_field bytes (page_record_at bytes j) (key_before bytes j)
     (λ w. is_key (limits_in bytes) (key_of_word w))
-    ∷ record { at = page_record_at bytes j + 4; size = PAGE_SIZE; breaks = None } ∷ [])
+    ∷ record { at = page_record_at bytes j + PAGE_OFFSET; size = PAGE_SIZE; breaks = None } ∷ [])
     (range_with_len 0 (page_count bytes))
 
 -- all of them, in the order of bytes

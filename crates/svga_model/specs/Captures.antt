@@ -6,12 +6,13 @@ use Rattle.std.specs.Option.{option_or}
 use Rattle.svga_cmd.specs.Pages.{Memory}
 use Rattle.svga_cmd.specs.declared.capture_cause.CaptureCause.{CaptureCause}
 use Rattle.svga_cmd.specs.declared.capture_cause.CaptureCause.TheVariants.{Long}
-use Rattle.svga_cmd.specs.declared.constants.TheConstants.{PAGE_RECORD_SIZE, SVGA_FIFO_FENCE, UNMAPPED_WORD}
+use Rattle.svga_cmd.specs.declared.capture_layout.TheConstants.{FENCE_OFFSET, FIFO_AT, PAGE_OFFSET, PLACES_OFFSET, WORD_SIZE}
+use Rattle.svga_cmd.specs.declared.constants.TheConstants.{PAGE_RECORD_SIZE, UNMAPPED_WORD}
 use Rattle.svga_cmd.specs.declared.limits.Limits.{Limits}
 use Rattle.svga_cmd.specs.declared.page.PageKey.{PageKey}
 use Rattle.svga_cmd.specs.declared.page.PageKey.TheVariants.{Guest}
 use Rattle.svga_model.specs.Addresses.{address, dwords_between}
-use Rattle.svga_model.specs.CaptureFields.{RegionRecord, capture_end, capture_fields, fifo_word, first_flaw, key_of_word, limits_in, min_in, next_in, page_record_at, page_count, region_records, ring_end, stop_in}
+use Rattle.svga_model.specs.CaptureFields.{RegionRecord, capture_end, capture_fields, first_flaw, key_of_word, limits_in, min_in, next_in, page_record_at, page_count, region_records, ring_end, stop_in}
 use Rattle.svga_model.specs.Memories.{with_page}
 use Rattle.svga_model.specs.Regions.{Places, Regions}
 use Rattle.svga_model.specs.States.{State, opening_memory}
@@ -32,7 +33,8 @@ place_of_word w = if w == UNMAPPED_WORD then None else Some (Guest w)
 -- the list of a region
 abbrev pub listed_places : List ℕ → RegionRecord → Places
 listed_places bytes r =
-    map_list (λ k. place_of_word (little_word bytes (r.at + 8 + 4 * k))) (range_with_len 0 r.count)
+    map_list (λ k. place_of_word (little_word bytes (r.at + PLACES_OFFSET + WORD_SIZE * k)))
+    (range_with_len 0 r.count)
 
 abbrev pub listed_regions : List ℕ → Regions
 listed_regions bytes = map.from_entries (map_list (λ r. (r.id, listed_places bytes r)) (region_records bytes))
@@ -43,7 +45,7 @@ listed_key bytes j = key_of_word (little_word bytes (page_record_at bytes j))
 
 abbrev pub listed_bytes : List ℕ → ℕ → List ℕ
 listed_bytes bytes j =
-    slice_range bytes (page_record_at bytes j + 4) (page_record_at bytes j + PAGE_RECORD_SIZE)
+    slice_range bytes (page_record_at bytes j + PAGE_OFFSET) (page_record_at bytes j + PAGE_RECORD_SIZE)
 
 -- pages of zeros, but for those with records
 abbrev pub listed_memory : List ℕ → Memory
@@ -51,9 +53,9 @@ listed_memory bytes =
     fold (λ m j. with_page m (listed_key bytes j) (listed_bytes bytes j)) (opening_memory (limits_in bytes))
     (range_with_len 0 (page_count bytes))
 
--- the opening fence: word 6 of the FIFO where MIN is above 24, else 0
+-- the opening fence: the FIFO's fence where MIN is above its offset, else 0
 abbrev pub fence_in : List ℕ → ℕ
-fence_in bytes = if nat_lt (4 * SVGA_FIFO_FENCE) (min_in bytes) then fifo_word bytes SVGA_FIFO_FENCE else 0
+fence_in bytes = if nat_lt FENCE_OFFSET (min_in bytes) then little_word bytes (FIFO_AT + FENCE_OFFSET) else 0
 
 -- the state before the words: no GMRFB is defined and no screen
 abbrev pub opening_in : List ℕ → State
@@ -77,7 +79,7 @@ abbrev pub waiting_words : List ℕ → List ℕ
 waiting_words bytes =
     let dwords = dwords_between (min_in bytes) (ring_end bytes) in
     let first = dwords_between (min_in bytes) (stop_in bytes) in
-    map_list (λ k. little_word bytes (36 + address (min_in bytes) dwords (first + k)))
+    map_list (λ k. little_word bytes (FIFO_AT + address (min_in bytes) dwords (first + k)))
     (range_with_len 0 (waiting (min_in bytes) (ring_end bytes) (next_in bytes) (stop_in bytes) / 4))
 
 -- what the bytes hold, if they are a capture

@@ -158,7 +158,9 @@ pub fn bounded_scripts()
 {}
 
 /// What small scripts mean.
-#[tactic(auto, unfolding(crate::specs::Scripts::script_of, crate::specs::Scripts::meaning_of, crate::specs::Faults::fault_of))]
+#[tactic(auto, unfolding(crate::specs::Scripts::script_of,
+// What is read is then done, and each command judged.
+crate::specs::Scripts::meaning_of, crate::specs::Faults::fault_of))]
 pub fn small_meanings()
     ensures fences { told_in (small_session ∷ codes "fence" ∷ codes "fence" ∷ [])
         ≡ Some (Fenced 4294967295 ∷ Fenced 1 ∷ []) }

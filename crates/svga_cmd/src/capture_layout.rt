@@ -1,52 +1,52 @@
 //! Where the fields of a capture stand, in bytes from its first on, and how many bytes its parts have.
 
-use svga_cmd::constants::{
+use crate::constants::{
     SVGA_FIFO_FENCE, SVGA_FIFO_MAX, SVGA_FIFO_MIN, SVGA_FIFO_NEXT_CMD, SVGA_FIFO_STOP,
 };
 
 /// The bytes of a word.
-pub(crate) const WORD_SIZE: u32 = 4;
+pub const WORD_SIZE: u32 = 4;
 
 /// The letters SVGF.
-pub(crate) const LETTERS_AT: u32 = 0;
+pub const LETTERS_AT: u32 = 0;
 /// The version.
-pub(crate) const VERSION_AT: u32 = 4;
+pub const VERSION_AT: u32 = 4;
 /// MAX, where the ring ends.
-pub(crate) const MAX_AT: u32 = 8;
+pub const MAX_AT: u32 = 8;
 /// How many pages of guest memory there are.
-pub(crate) const GUEST_PAGES_AT: u32 = 12;
+pub const GUEST_PAGES_AT: u32 = 12;
 /// The width of the guest framebuffer.
-pub(crate) const FRAME_WIDTH_AT: u32 = 16;
+pub const FRAME_WIDTH_AT: u32 = 16;
 /// The height of the guest framebuffer.
-pub(crate) const FRAME_HEIGHT_AT: u32 = 20;
+pub const FRAME_HEIGHT_AT: u32 = 20;
 /// How many pixels all screens together may have.
-pub(crate) const BUDGET_AT: u32 = 24;
+pub const BUDGET_AT: u32 = 24;
 /// How many regions have records.
-pub(crate) const REGION_COUNT_AT: u32 = 28;
+pub const REGION_COUNT_AT: u32 = 28;
 /// How many pages have records.
-pub(crate) const PAGE_COUNT_AT: u32 = 32;
+pub const PAGE_COUNT_AT: u32 = 32;
 
 /// The FIFO's memory, of MAX bytes.
-pub(crate) const FIFO_AT: u32 = 36;
+pub const FIFO_AT: u32 = 36;
 /// The bytes of the four words with which it begins, which say the ring.
-pub(crate) const RING_WORDS_SIZE: u32 = 16;
+pub const RING_WORDS_SIZE: u32 = 16;
 /// MIN, where the ring begins.
-pub(crate) const MIN_AT: u32 = FIFO_AT + WORD_SIZE * SVGA_FIFO_MIN;
+pub const MIN_AT: u32 = FIFO_AT + WORD_SIZE * SVGA_FIFO_MIN;
 /// MAX again.
-pub(crate) const FIFO_MAX_AT: u32 = FIFO_AT + WORD_SIZE * SVGA_FIFO_MAX;
+pub const FIFO_MAX_AT: u32 = FIFO_AT + WORD_SIZE * SVGA_FIFO_MAX;
 /// NEXT_CMD, behind the last word that waits.
-pub(crate) const NEXT_CMD_AT: u32 = FIFO_AT + WORD_SIZE * SVGA_FIFO_NEXT_CMD;
+pub const NEXT_CMD_AT: u32 = FIFO_AT + WORD_SIZE * SVGA_FIFO_NEXT_CMD;
 /// STOP, the first word that waits.
-pub(crate) const STOP_AT: u32 = FIFO_AT + WORD_SIZE * SVGA_FIFO_STOP;
+pub const STOP_AT: u32 = FIFO_AT + WORD_SIZE * SVGA_FIFO_STOP;
 /// What follows these four words.
-pub(crate) const FIFO_REST_AT: u32 = FIFO_AT + RING_WORDS_SIZE;
+pub const FIFO_REST_AT: u32 = FIFO_AT + RING_WORDS_SIZE;
 /// The offset of the fence in the FIFO's memory; it is the fence where MIN is above it.
-pub(crate) const FENCE_OFFSET: u32 = WORD_SIZE * SVGA_FIFO_FENCE;
+pub const FENCE_OFFSET: u32 = WORD_SIZE * SVGA_FIFO_FENCE;
 
 /// The offset of the count in a region's record.
-pub(crate) const COUNT_OFFSET: u32 = 4;
+pub const COUNT_OFFSET: u32 = 4;
 /// The offset of the places in a region's record.
-pub(crate) const PLACES_OFFSET: u32 = 8;
+pub const PLACES_OFFSET: u32 = 8;
 
 /// The offset of the page in a page's record.
-pub(crate) const PAGE_OFFSET: u32 = 4;
+pub const PAGE_OFFSET: u32 = 4;
