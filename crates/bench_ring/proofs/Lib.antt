@@ -1,0 +1,2 @@
+pub mod PassedCommands
+pub mod Reservations
