@@ -428,5 +428,10 @@ fn too_many_lines(rt: HostRuntime) -> Result<(), Fail> {
         *last = b'\n';
     }
     assert_eq!(rt; told(alloc, &text), wrong(1048577, 1, ScriptCause::Limit));
+    // It is, too, where no line is the session's.
+    if let Some(first) = text.first_mut() {
+        *first = b'#';
+    }
+    assert_eq!(rt; told(alloc, &text), wrong(1048577, 1, ScriptCause::Limit));
     Ok(())
 }
