@@ -9,7 +9,7 @@
 /// | 2 | the words are no form of the program; the input was left alone |
 /// | 3 | the input has a bad word, or ends inside a command or inside a word, or is no capture |
 /// | 4 | the source's count of faults rose |
-/// | 5 | the sink's count of faults rose, before the text that was due with another status was written whole |
+/// | 5 | the sink's count of faults rose, before the text due with another status was written whole |
 /// | 6 | no memory was found, and no text was written |
 /// | 7 | the input is longer than 134,217,728 bytes |
 #[derive(Clone, Copy, Debug, PartialEq, Eq)]

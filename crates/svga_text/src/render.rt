@@ -131,7 +131,8 @@ impl Render {
         name: &'static str,
         key: Option<PageKey>,
     ) -> Result<(), WriteFault>
-        ensures { Writes K.held K.faults sink.old sink.new (line_text (RefusedLine at number name.entry key)) result }
+        ensures { Writes K.held K.faults sink.old sink.new
+            (line_text (RefusedLine at number name.entry key)) result }
     {
         let (at, fault, number, name) = (Unsigned(at), Name("fault"), Unsigned(number), Name(name));
         match key {

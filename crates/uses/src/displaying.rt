@@ -21,7 +21,8 @@ pub fn write_and_update(
     height: u32,
 ) -> bool
     ensures written { IsTrue result ↔ (IsKey display.old.kept.limits key × (at + length bytes.now ≤ 4096)) }
-    ensures shown { IsTrue result → (let page = painted_row (page_bytes display.old.memory key) at bytes.now in
+    ensures shown { IsTrue result →
+        (let page = painted_row (page_bytes display.old.memory key) at bytes.now in
         display.new ≡ step (step display.old (Put key page)) (Do (commands.Update 0 0 width height))) }
     ensures refused { result ≡ false → display.new ≡ display.old }
 {
