@@ -1,5 +1,6 @@
 -- The commands that are passed may be sent and taken at any time.
-use Rattle.std.proofs.Common.{◌≡◌, ℕ, ◌+◌, ◌<◌, List, [], ◌∷◌, ◌++◌, length, length-append, refl, sym, ap, ◌∙◌, arith, take, drop, take-append-drop, append-nil}
+use Rattle.std.specs.List.{slice_get}
+use Rattle.std.proofs.Common.{Some, zero, suc, subst, ◌≡◌, ℕ, ◌+◌, ◌<◌, List, [], ◌∷◌, ◌++◌, length, length-append, refl, sym, ap, ◌∙◌, arith, take, drop, take-append-drop, append-nil}
 use Rattle.std.proofs.lemmas.List.{length-take-le}
 use Rattle.std.proofs.lemmas.List.Elements.{filter_map-append}
 use Rattle.svga_cmd.specs.Spelling.{Spells}
@@ -11,10 +12,12 @@ use Rattle.svga_model.proofs.GrammarPrefixes.{same_length}
 use Rattle.svga_model.specs.Acts.{Act, Do}
 use Rattle.svga_model.specs.Faults.{IsAdmissible, fault_of}
 use Rattle.svga_model.specs.Fences.{fence_value, fences}
+use Rattle.svga_model.specs.Runs.{run}
 use Rattle.svga_model.specs.States.{State}
 use Rattle.svga_model.specs.Touches.{Touches, has_page}
 use Rattle.svga_ring.proofs.Words.NextCommand.{commands-append}
-use Rattle.svga_ring.specs.Committed.{commands}
+use Rattle.svga_ring.specs.Committed.{before, commands}
+use Rattle.svga_ring.specs.SoundPages.{TouchesAt}
 
 -- a GMRFB in region 0
 abbrev pub gmrfb : ℕ → Command
@@ -59,3 +62,15 @@ fences_stay acts n =
 
 pub gmrfb_no_fence : (n value : ℕ) → gmrfb n ≡ Fence value → ⊥
 gmrfb_no_fence n value same = cc
+
+-- where all commands are one fence, no command touches a page
+one_at : (value n : ℕ) (d : Command) → slice_get (Fence value ∷ []) n ≡ Some d → d ≡ Fence value
+one_at value zero d is = cc
+one_at value (suc n) d is = cc
+
+pub fence_touches_none : (s : State) (acts : List Act) (value n : ℕ) (key : PageKey) → commands acts ≡ Fence value ∷ []
+    → TouchesAt s acts n key → ⊥
+fence_touches_none s acts value n key are touched =
+    let same = one_at value n touched.0 (subst (λ (cs : List Command). slice_get cs n ≡ Some touched.0) are touched.1) in
+    fence_alone (run s (before n acts)) value key
+    (subst (λ (d : Command). Touches (run s (before n acts)) (Do d) key) same touched.2)

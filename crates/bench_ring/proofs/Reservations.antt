@@ -27,6 +27,7 @@ stays_so d left same = record {
   request = ap (λ (v : DriverView). v.request) same;
   replies = ap (λ (v : DriverView). v.reply_loads) same;
   stopped = ap (λ (v : DriverView). v.stopped) same;
+  lent = ap (λ (v : DriverView). v.lent) same;
 }
 
 pub stays_on : (a b c : DriverView) → Stays a b → Stays b c → Stays a c
@@ -38,6 +39,7 @@ stays_on a b c first second = record {
   request = second.request ∙ first.request;
   replies = second.replies ∙ first.replies;
   stopped = second.stopped ∙ first.stopped;
+  lent = second.lent ∙ first.lent;
 }
 
 -- over a load of STOP,
@@ -50,6 +52,7 @@ stays_loaded d left found told = record {
   request = ap (λ (v : DriverView). v.request) told.view;
   replies = ap (λ (v : DriverView). v.reply_loads) told.view;
   stopped = ap (λ (v : DriverView). v.stopped) told.view;
+  lent = ap (λ (v : DriverView). v.lent) told.view;
 }
 
 -- where a reservation begins,
@@ -62,6 +65,7 @@ stays_begun d left bytes r begun = stays_on d begun.loaded left (stays_loaded d 
   request = ap (λ (v : DriverView). v.request) begun.left_is;
   replies = ap (λ (v : DriverView). v.reply_loads) begun.left_is;
   stopped = ap (λ (v : DriverView). v.stopped) begun.left_is;
+  lent = ap (λ (v : DriverView). v.lent) begun.left_is;
 })
 
 -- where it is refused,
@@ -88,7 +92,7 @@ refused d left bytes (NoRoom stop free) told = record {
 pub stays_put : (d : DriverView) (bytes word : ℕ) → Stays d (putting d bytes word)
 stays_put d bytes word = go (goes_in_place d bytes) where
   go : (b : Bool) → Stays d (if b then with_pending d word else d)
-  go true = record { terms = refl; acts = refl; sent = refl; seen = refl; request = refl; replies = refl; stopped = refl }
+  go true = record { terms = refl; acts = refl; sent = refl; seen = refl; request = refl; replies = refl; stopped = refl; lent = refl }
   go false = stays_so d d refl
 
 -- so a driver that was ready stays so

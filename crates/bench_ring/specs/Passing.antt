@@ -38,12 +38,14 @@ pub record Stays (d left : DriverView) : Type 0 where
   pub request : left.request ≡ d.request
   pub replies : left.reply_loads ≡ d.reply_loads
   pub stopped : left.stopped ≡ d.stopped
+  pub lent : left.lent ≡ d.lent
 
 -- the command is sent with these words
 pub record HasSent (c : Command) (words : List ℕ) (d left : DriverView) : Type 0 where
   pub terms : left.terms ≡ d.terms
   pub seen : left.seen ≡ d.seen
   pub acts : left.acts ≡ d.acts ++ Do c ∷ []
+  pub lent : left.lent ≡ d.lent
   pub sent : left.sent ≡ d.sent ++ words
 
 -- how many fences the driver has sent

@@ -2,14 +2,16 @@
 //! it.
 //!
 //! Its arguments are how the driver writes, `reserve` or `dword`, and how many commands it sends. Without
-//! arguments it sends a few thousand by each way.
+//! arguments it sends some thousands by each way. At the end a page is lent and taken back.
 #![tactic(auto)]
 
 mod commands;
+mod lending;
 mod passing;
 mod receiving;
 mod sending;
 
+use crate::lending::lend_and_take;
 use crate::passing::pass;
 use std::{env, io};
 use svga_cmd::Way;
@@ -19,6 +21,9 @@ const COMMANDS: u32 = 10_000;
 
 // Fences are one in 16, and at most 65,536 of them.
 const MOST_COMMANDS: u32 = 1_000_000;
+
+// What is written into the page that is lent.
+const BYTE: u8 = 9;
 
 fn main(rt: HostRuntime) -> Result<(), io::Error> {
     let mut arguments = env::args(&rt)?;
@@ -45,5 +50,6 @@ fn main(rt: HostRuntime) -> Result<(), io::Error> {
         let found = pass(rt, rt.alloc(), Way::Dword, count)?;
         println!(rt; "dword by dword {found} of {count} commands are found whole and in order")?;
     }
-    Ok(())
+    let found = lend_and_take(&rt, rt.alloc(), BYTE)?;
+    println!(rt; "a page that held {BYTE} holds {found} behind a fence")
 }

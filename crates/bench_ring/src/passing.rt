@@ -12,7 +12,14 @@ use svga_cmd::{Limits, Session, Way};
 use svga_link::make;
 
 // The smallest ring.
-const RING: u32 = 11404;
+pub const RING: u32 = 11404;
+
+pub const LIMITS: Limits = Limits {
+    pages: 2,
+    gfb_width: 8,
+    gfb_height: 2,
+    budget: 64,
+};
 
 /// How many of so many commands are found on the other thread as they were sent.
 pub fn pass<R: Threads + Wait + Copy + Send + 'static>(
@@ -23,13 +30,7 @@ pub fn pass<R: Threads + Wait + Copy + Send + 'static>(
 ) -> io::Result<u32>
     requires { count ≤ 2 ^ 20 }
 {
-    let limits = Limits {
-        pages: 2,
-        gfb_width: 8,
-        gfb_height: 2,
-        budget: 64,
-    };
-    let Some(session) = Session::new(RING, limits, 1, way) else {
+    let Some(session) = Session::new(RING, LIMITS, 1, way) else {
         return Ok(0);
     };
     let (mut driver, device) = make(alloc, &session)?;

@@ -53,8 +53,8 @@ fn take<R: Wait>(rt: &R, device: &mut DeviceEnd, words: &[u32]) -> bool
     true
 }
 
-// The same of a FENCE, whose number it stores.
-fn take_fence<R: Wait>(rt: &R, device: &mut DeviceEnd, number: u32) -> bool
+/// The same of a FENCE, whose number it stores.
+pub fn take_fence<R: Wait>(rt: &R, device: &mut DeviceEnd, number: u32) -> bool
     requires { IsWaiting device.old.view }
     ensures { IsTrue result → IsWaiting device.new.view }
 {

@@ -38,8 +38,8 @@ fn put_all(driver: &mut DriverEnd, words: &[u32])
     }
 }
 
-// Sends the command that these words spell.
-fn send<R: Wait>(rt: &R, driver: &mut DriverEnd, words: &[u32])
+/// Sends the command that these words spell.
+pub fn send<R: Wait>(rt: &R, driver: &mut DriverEnd, words: &[u32])
     requires ready { IsReady driver.old }
     requires few { length words.now ≤ 5 }
     requires short { length driver.old.view.sent + 5 < 2 ^ 62 }

@@ -37,6 +37,7 @@ returns-clause-sent g c = λ command spells.
     record {
       terms = ap (λ d. d.view.terms) left ∙ stays.terms;
       seen = ap (λ d. d.view.seen) left ∙ stays.seen;
+      lent = ap (λ d. d.view.lent) left ∙ stays.lent;
       acts = ap (λ d. d.view.acts) left ∙ ap (λ acts. acts ++ Do command ∷ []) stays.acts;
       sent = ap (λ d. d.view.sent) left ∙ ap (λ words. c.put_all.new.driver.view.sent ++ words) c.put_all.ensures.words
           ∙ ap (λ sent. sent ++ c.args.words.now) stays.sent;
