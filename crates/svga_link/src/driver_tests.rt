@@ -20,7 +20,7 @@ fn a_page_that_is_lent_is_not_with_the_driver(rt: HostRuntime) {
     let key = PageKey::Guest(1);
     match driver.page_mut(key) {
         Some(page) => page.bytes_mut()[7] = 9,
-        None => unreachable!(),
+        None => panic!(rt; "the page is with the driver"),
     }
     let byte = match driver.page(key) {
         Some(page) => page.bytes()[7],
