@@ -1,8 +1,8 @@
-mod CallLaws
-mod ClientOfLaws
-mod CloseLaws
-mod FollowLaws
-mod MarkLaws
-mod OpeningLaws
-mod OwnLaws
-mod WalkLaws
+pub mod CallLaws
+pub mod ClientOfLaws
+pub mod CloseLaws
+pub mod FollowLaws
+pub mod MarkLaws
+pub mod OpeningLaws
+pub mod OwnLaws
+pub mod WalkLaws

@@ -1,0 +1,10 @@
+mod CommitLaws
+mod FenceLaws
+mod LendingLaws
+mod LoadLaws
+mod OpeningLaws
+mod PageCalls
+mod Rows
+mod SendLaws
+mod TakeLaws
+mod TouchLaws
