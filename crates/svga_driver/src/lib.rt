@@ -18,3 +18,6 @@ mod touching;
 pub use closing::Unsettled;
 pub use driver::Driver;
 pub use fault::{DriverFault, Fence, Posted};
+
+#[cfg(test)]
+mod tests;
