@@ -38,7 +38,7 @@ static uint32_t command(uint32_t n, uint32_t fences, uint32_t words[5]) {
     words[0] = 30; words[1] = 1 + fences;
     return 2;
   }
-  words[0] = 36; words[1] = 0; words[2] = n; words[3] = 16; words[4] = 0x1820;
+  words[0] = 36; words[1] = 1; words[2] = n; words[3] = 16; words[4] = 0x1820;
   return 5;
 }
 

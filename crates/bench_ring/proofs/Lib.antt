@@ -1,2 +1,3 @@
+pub mod Lendings
 pub mod PassedCommands
 pub mod Reservations

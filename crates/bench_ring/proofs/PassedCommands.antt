@@ -1,14 +1,15 @@
 -- The commands that are passed may be sent and taken at any time.
-use Rattle.std.specs.List.{slice_get}
-use Rattle.std.proofs.Common.{Some, zero, suc, subst, ◌≡◌, ℕ, ◌+◌, ◌<◌, List, [], ◌∷◌, ◌++◌, length, length-append, refl, sym, ap, ◌∙◌, arith, take, drop, take-append-drop, append-nil}
+use Rattle.std.proofs.Common.{subst, ◌≡◌, ℕ, ◌+◌, ◌<◌, List, [], ◌∷◌, ◌++◌, length, length-append, refl, sym, ap, ◌∙◌, arith, take, drop, take-append-drop, append-nil}
 use Rattle.std.proofs.lemmas.List.{length-take-le}
 use Rattle.std.proofs.lemmas.List.Elements.{filter_map-append}
 use Rattle.svga_cmd.specs.Spelling.{Spells}
 use Rattle.svga_cmd.specs.declared.command.Command.{Command}
-use Rattle.svga_cmd.specs.declared.command.Command.TheVariants.{DefineGmrfb, Fence}
+use Rattle.svga_cmd.specs.declared.command.Command.TheVariants.{DefineGmr2, DefineGmrfb, Fence}
 use Rattle.svga_cmd.specs.declared.format.Format.TheVariants.{Bgrx32}
 use Rattle.svga_cmd.specs.declared.page.PageKey.{PageKey}
 use Rattle.svga_model.proofs.GrammarPrefixes.{same_length}
+use Rattle.svga_model.proofs.ValidRegions.{place_count-empty}
+use Rattle.svga_model.proofs.WorkedRegions.{define_admissible}
 use Rattle.svga_model.specs.Acts.{Act, Do}
 use Rattle.svga_model.specs.Faults.{IsAdmissible, fault_of}
 use Rattle.svga_model.specs.Fences.{fence_value, fences}
@@ -16,12 +17,13 @@ use Rattle.svga_model.specs.Runs.{run}
 use Rattle.svga_model.specs.States.{State}
 use Rattle.svga_model.specs.Touches.{Touches, has_page}
 use Rattle.svga_ring.proofs.Words.NextCommand.{commands-append}
-use Rattle.svga_ring.specs.Committed.{before, commands}
-use Rattle.svga_ring.specs.SoundPages.{TouchesAt}
+use Rattle.svga_ring.specs.Committed.{commands}
+use Rattle.svga_ring.specs.Conditions.{first_state}
+use Rattle.svga_ring.specs.Views.{DriverView}
 
--- a GMRFB in region 0
+-- a GMRFB in region 1
 abbrev pub gmrfb : ℕ → Command
-gmrfb n = DefineGmrfb (record { region = 0; offset = n; pitch = 16; format = Bgrx32 })
+gmrfb n = DefineGmrfb (record { region = 1; offset = n; pitch = 16; format = Bgrx32 })
 
 pub gmrfb_admissible : (s : State) (n : ℕ) → IsAdmissible s (Do (gmrfb n))
 unfolding fault_of
@@ -30,6 +32,20 @@ gmrfb_admissible s n = refl
 pub fence_admissible : (s : State) (value : ℕ) → IsAdmissible s (Do (Fence value))
 unfolding fault_of
 fence_admissible s value = refl
+
+-- a region of one place is admissible as the first act
+pub gmr2_admissible : (d : DriverView) → d.acts ≡ []
+    → IsAdmissible (run (first_state d) d.acts) (Do (DefineGmr2 1 1))
+gmr2_admissible d none =
+    subst (λ (acts : List Act). IsAdmissible (run (first_state d) acts) (Do (DefineGmr2 1 1))) (sym none)
+    (define_admissible (first_state d) 1 1 (omega arith) (omega (arith, place_count-empty)))
+
+pub gmr2_alone : (s : State) (key : PageKey) → Touches s (Do (DefineGmr2 1 1)) key → ⊥
+unfolding has_page
+gmr2_alone s key touched = cc
+
+pub gmr2_no_fence : (value : ℕ) → DefineGmr2 1 1 ≡ Fence value → ⊥
+gmr2_no_fence value same = cc
 
 pub gmrfb_alone : (s : State) (n : ℕ) (key : PageKey) → Touches s (Do (gmrfb n)) key → ⊥
 unfolding has_page
@@ -62,15 +78,3 @@ fences_stay acts n =
 
 pub gmrfb_no_fence : (n value : ℕ) → gmrfb n ≡ Fence value → ⊥
 gmrfb_no_fence n value same = cc
-
--- where all commands are one fence, no command touches a page
-one_at : (value n : ℕ) (d : Command) → slice_get (Fence value ∷ []) n ≡ Some d → d ≡ Fence value
-one_at value zero d is = cc
-one_at value (suc n) d is = cc
-
-pub fence_touches_none : (s : State) (acts : List Act) (value n : ℕ) (key : PageKey) → commands acts ≡ Fence value ∷ []
-    → TouchesAt s acts n key → ⊥
-fence_touches_none s acts value n key are touched =
-    let same = one_at value n touched.0 (subst (λ (cs : List Command). slice_get cs n ≡ Some touched.0) are touched.1) in
-    fence_alone (run s (before n acts)) value key
-    (subst (λ (d : Command). Touches (run s (before n acts)) (Do d) key) same touched.2)

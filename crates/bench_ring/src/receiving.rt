@@ -40,8 +40,8 @@ fn finds<R: Wait>(rt: &R, device: &mut DeviceEnd, words: &[u32]) -> bool
     true
 }
 
-// Takes the next command, and tells whether it is this one.
-fn take<R: Wait>(rt: &R, device: &mut DeviceEnd, words: &[u32]) -> bool
+/// Takes the next command, and tells whether it is this one.
+pub fn take<R: Wait>(rt: &R, device: &mut DeviceEnd, words: &[u32]) -> bool
     requires waiting { IsWaiting device.old.view }
     requires plain { (c : Command) × IsPlain c words.now }
     ensures { IsTrue result → IsWaiting device.new.view }
@@ -86,6 +86,19 @@ pub fn take_all<R: Wait + Copy>(rt: R, mut device: DeviceEnd, first: u32, count:
 {
     for n in 0..count {
         if !take_nth(&rt, &mut device, n, first) {
+            return n;
+        }
+    }
+    count
+}
+
+/// The same of fences alone.
+pub fn take_fences<R: Wait + Copy>(rt: R, mut device: DeviceEnd, first: u32, count: u32) -> u32
+    requires waiting { IsWaiting device.view }
+    requires first { 1 ≤ first }
+{
+    for n in 0..count {
+        if !take_fence(&rt, &mut device, fence_number(first, n as u64)) {
             return n;
         }
     }

@@ -6,11 +6,11 @@ ghost use Rattle.svga_cmd.specs.declared.command.Command.{Command};
 
 use crate::commands::{FENCE_EVERY, define_gmrfb, fence};
 use std::sync::Wait;
-use svga_link::DriverEnd;
+use svga_link::{DriverEnd, Reserved};
 use svga_ring::fence_number;
 
 // Begins a reservation as soon as there is room.
-fn begin<R: Wait>(rt: &R, driver: &mut DriverEnd, bytes: u32)
+fn begin<R: Wait>(rt: &R, driver: &mut DriverEnd, bytes: u32) -> Reserved
     requires ready { IsReady driver.old }
     requires short { length driver.old.view.sent + bytes / 4 < 2 ^ 62 }
     ensures begun { (driver.new.reserved ≡ bytes) × (driver.new.words ≡ []) }
@@ -18,7 +18,7 @@ fn begin<R: Wait>(rt: &R, driver: &mut DriverEnd, bytes: u32)
 {
     for _ in rt.forever() {
         match driver.reserve(bytes) {
-            Ok(_) => return,
+            Ok(reserved) => return reserved,
             Err(_) => {}
         }
     }
@@ -38,8 +38,8 @@ fn put_all(driver: &mut DriverEnd, words: &[u32])
     }
 }
 
-/// Sends the command that these words spell.
-pub fn send<R: Wait>(rt: &R, driver: &mut DriverEnd, words: &[u32])
+/// Sends the command that these words spell, and gives the reservation for it.
+pub fn send<R: Wait>(rt: &R, driver: &mut DriverEnd, words: &[u32]) -> Reserved
     requires ready { IsReady driver.old }
     requires few { length words.now ≤ 5 }
     requires short { length driver.old.view.sent + 5 < 2 ^ 62 }
@@ -47,9 +47,10 @@ pub fn send<R: Wait>(rt: &R, driver: &mut DriverEnd, words: &[u32])
     ensures ready { IsReady driver.new }
     ensures sent { (c : Command) → Spells c words.now → HasSent c words.now driver.old.view driver.new.view }
 {
-    begin(rt, driver, 4 * words.len() as u32);
+    let reserved = begin(rt, driver, 4 * words.len() as u32);
     put_all(driver, words);
     driver.commit();
+    reserved
 }
 
 // Sends command n, where so many of them were fences, and tells how many are then.

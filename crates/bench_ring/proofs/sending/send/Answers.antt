@@ -12,7 +12,7 @@ commit-requires-clause-full g c =
 pub commit-requires-clause-may : goal.commit-requires-clause-may
 commit-requires-clause-may g c =
     let next = c.requires.next in
-    let stays = stays_on _ _ _ c.begin.ensures.stays c.put_all.ensures.stays in (
+    let stays = stays_on _ _ _ c.begin-reserved.ensures.stays c.put_all.ensures.stays in (
       next.0,
       subst (λ words. MaySend c.put_all.new.driver.view words next.0) (sym c.put_all.ensures.words)
           (may_send _ _ next.0 _ next.1 c.requires.ready.none_open stays),
@@ -21,7 +21,7 @@ commit-requires-clause-may g c =
 pub returns-clause-ready : goal.returns-clause-ready
 returns-clause-ready g c =
     let next = c.requires.next in
-    let stays = stays_on _ _ _ c.begin.ensures.stays c.put_all.ensures.stays in
+    let stays = stays_on _ _ _ c.begin-reserved.ensures.stays c.put_all.ensures.stays in
     let left = c.commit.ensures next.0 (subst (Spells next.0) (sym c.put_all.ensures.words) next.1.spelled) in
     record {
       runs = ap (λ d. d.view.stopped) left ∙ stays.stopped ∙ c.requires.ready.runs;
@@ -32,7 +32,7 @@ returns-clause-ready g c =
 
 pub returns-clause-sent : goal.returns-clause-sent
 returns-clause-sent g c = λ command spells.
-    let stays = stays_on _ _ _ c.begin.ensures.stays c.put_all.ensures.stays in
+    let stays = stays_on _ _ _ c.begin-reserved.ensures.stays c.put_all.ensures.stays in
     let left = c.commit.ensures command (subst (Spells command) (sym c.put_all.ensures.words) spells) in
     record {
       terms = ap (λ d. d.view.terms) left ∙ stays.terms;
