@@ -28,7 +28,7 @@ const MOST_COMMANDS: u32 = 1_000_000;
 // Behind the first command of 3 words, so many of 5 go past the ring's end once.
 const WRAPPING: u32 = 512;
 
-// The number that is named, or else this one.
+// The number that is named, 0 where that is none; or else this one.
 fn number(named: &Option<String>, other: u32) -> u32 {
     match named {
         Some(named) => named.as_str().parse::<u32>().unwrap_or(0),

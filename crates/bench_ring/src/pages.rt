@@ -16,8 +16,8 @@ use std::{io, thread};
 use svga_cmd::{Limits, PageKey, Session, Way};
 use svga_link::{DriverEnd, make};
 
-/// The guest's pages.
-pub const PAGES: u32 = 4096;
+// The guest's pages.
+const PAGES: u32 = 4096;
 
 const LIMITS: Limits = Limits {
     pages: PAGES,
@@ -32,7 +32,7 @@ const AT_ONCE: u32 = 64;
 /// So many times pages are lent until each was once.
 pub const TURNS: u32 = PAGES / AT_ONCE;
 
-/// Before the numbers of fences come near their window.
+/// So many turns send fewer fences than their window has.
 pub const MOST_TURNS: u32 = 65_535;
 
 // A byte of the page's number.
