@@ -3,9 +3,9 @@
 
 Needs crates/bench_ring/out/bench_ring, which `rt run` in crates/bench_ring or `rt ci` leaves, and a C compiler. The
 program writes 64 pages, lends them, sends a fence that its other thread takes, and takes the pages back; so its time
-has the fences in it. The C program copies each page to another place and back, on one thread and with no fence. Each
-time is the best of several runs, less that of a run over no page; the programs take turns, since the machine's speed
-wanders.
+has the fences in it, and since both of its threads look again and again, it wants two processors that are free. The C
+program copies each page to another place and back, on one thread and with no fence. Each time is the best of several
+runs, less that of a run over no page; the programs take turns, since the machine's speed wanders.
 """
 import pathlib
 import subprocess
