@@ -143,8 +143,8 @@ keeps_lent d written left key bytes pages ready view reserved is = record {
   ready = record {
     runs = ap (λ (s : DriverSeen). s.view.stopped) is ∙ ap (λ (v : DriverView). v.stopped) view ∙ ready.runs;
     none_begun = ap (λ (s : DriverSeen). s.reserved) is ∙ reserved ∙ ready.none_begun;
-    none_open = ap (λ (s : DriverSeen). s.view.request.number) is
-        ∙ ap (λ (v : DriverView). v.request.number) view ∙ ready.none_open ∙ sym (ap (λ (v : DriverView). v.reply_loads.last) view)
+    none_open = ap (λ (s : DriverSeen). s.view.request.number) is ∙ ap (λ (v : DriverView). v.request.number) view
+        ∙ ready.none_open ∙ sym (ap (λ (v : DriverView). v.reply_loads.last) view)
         ∙ sym (ap (λ (s : DriverSeen). s.view.reply_loads.last) is);
   };
   terms = ap (λ (s : DriverSeen). s.view.terms) is ∙ ap (λ (v : DriverView). v.terms) view;
