@@ -75,6 +75,13 @@ impl DeviceEnd {
         }
     }
 
+    /// The number below that of the session's first fence: what FENCE holds at the opening.
+    pub fn opening_fence(&self) -> u32
+        ensures { result ≡ self.now.view.terms.first - 1 }
+    {
+        self.seat.opening_fence()
+    }
+
     /// One load of NEXT_CMD.
     pub fn read_next(&mut self) -> u32
         ensures left { self.new ≡ record self.old { view = self.new.view } }

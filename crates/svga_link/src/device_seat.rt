@@ -98,6 +98,13 @@ impl DeviceSeat {
         let _ = &self.board;
     }
 
+    /// What FENCE holds at the opening.
+    pub(crate) fn opening_fence(&self) -> u32
+        ensures { result ≡ self.now.view.terms.first - 1 }
+    {
+        self.session.first - 1
+    }
+
     pub(crate) fn load_next(&mut self) -> u32
         ensures table { self.new.table ≡ self.old.table }
         ensures carried { self.new.carried ≡ self.old.carried }

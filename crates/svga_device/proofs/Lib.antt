@@ -1,0 +1,5 @@
+mod HeldLaws
+mod KeptGood
+mod NotedLaws
+mod ReadingLaws
+mod ServingLaws
