@@ -1,3 +1,4 @@
+mod FenceSent
 mod HeldLaws
 mod KeptGood
 mod NotedLaws

@@ -14,3 +14,6 @@ mod stepped;
 
 pub use device::{Device, DeviceClosed, NoDevice};
 pub use stepped::Stepped;
+
+#[cfg(test)]
+mod tests;
