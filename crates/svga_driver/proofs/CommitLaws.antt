@@ -27,7 +27,7 @@ use Rattle.svga_cmd.specs.declared.page.PageKey.{PageKey}
 use Rattle.svga_driver.proofs.TouchLaws.{Noted, all_lent_still, all_limits, all_marked, all_noted}
 use Rattle.svga_driver.specs.Answering.{told}
 use Rattle.svga_driver.specs.CommitAnswers.{CommitAnswers, IsCommitted}
-use Rattle.svga_driver.specs.Driving.{DriverHas, IsDriver, client_by, client_in, known_by, open_request, settled, with_view}
+use Rattle.svga_driver.specs.Driving.{DriverHas, IsAtNext, IsDriver, client_by, client_in, known_by, open_request, settled, with_view}
 use Rattle.svga_driver.specs.LendingSet.{AreLent, LendingSet, all_touched, places_for}
 use Rattle.svga_driver.specs.Sending.{HasNoRoomFor}
 use Rattle.svga_driver.specs.declared.fault.DriverFault.{DriverFault}
@@ -55,6 +55,7 @@ use Rattle.svga_ring.specs.Committed.{commands}
 use Rattle.svga_ring.specs.Conditions.{IsNextFence, NoneOpen, first_state}
 use Rattle.svga_ring.specs.Views.{DriverView, Loads, loaded}
 use Rattle.svga_shape.specs.Admission.{IsAdmitted}
+use Rattle.svga_ring.specs.declared.plans.Geometry.{Geometry}
 use Rattle.svga_shape.specs.ShapeSet.{ShapeSet, shape_in}
 
 -- Settling changes the reply alone.
@@ -78,7 +79,7 @@ some_word (DefineGmr2 region pages) = omega arith
 some_word (RemapGmr2 region offset pages entries) = omega arith
 
 -- more words are no fewer commands
-no_fewer : (cs : List Command) (a b : ℕ) → a ≤ length cs
+pub no_fewer : (cs : List Command) (a b : ℕ) → a ≤ length cs
     → length (spelling_all (take a cs)) ≤ length (spelling_all (take b cs)) → a ≤ b
 no_fewer cs zero b within le = omega arith
 no_fewer [] (suc a) b within le = absurd (omega (arith, within))
@@ -116,13 +117,13 @@ view_after d replies stop passed stops command words =
     committing (view_loaded d replies stop passed stops) command words
 
 -- A driver whose end made loads alone stays as it is.
-pub keeps_loads : {e : DriverSeen} {s : ShapeSet} {n : LendingSet} {first emitted committed seen : ℕ} {asked :
+pub keeps_loads : {ring : Geometry} {next : ℕ} {e : DriverSeen} {s : ShapeSet} {n : LendingSet} {first emitted committed seen : ℕ} {asked :
     Option ℕ}
-    (o : IsDriver e s n first emitted committed seen asked) (replies : Loads) (stop passed : ℕ)
+    (o : IsDriver ring next e s n first emitted committed seen asked) (replies : Loads) (stop passed : ℕ)
     (stops : Loads)
     → e.view.stop ≤ stop → passed ≤ length (commands e.view.acts)
     → stop ≡ length (spelling_all (take passed (commands e.view.acts)))
-    → IsDriver (record e { view = view_loaded e.view replies stop passed stops }) s n first emitted committed
+    → IsDriver ring next (record e { view = view_loaded e.view replies stop passed stops }) s n first emitted committed
     seen
     (open_request (view_loaded e.view replies stop passed stops))
 keeps_loads {e} o replies stop passed stops least some whole = record {
@@ -149,11 +150,12 @@ keeps_loads {e} o replies stop passed stops least some whole = record {
   passed = whole;
   some_passed = some;
   asked_is = refl;
+  at_next = o.at_next;
 }
 
-module _ {e : DriverSeen} {s : ShapeSet} {n : LendingSet} {first emitted committed seen : ℕ} {asked :
+module _ {ring : Geometry} {next : ℕ} {e : DriverSeen} {s : ShapeSet} {n : LendingSet} {first emitted committed seen : ℕ} {asked :
     Option ℕ}
-    (o : IsDriver e s n first emitted committed seen asked) (command : Command)
+    (o : IsDriver ring next e s n first emitted committed seen asked) (command : Command)
     (granted_is : refusal_of (client_by e.view e.pages n.touched) (Commit command) ≡ None) where
   abbrev pub d : DriverView
   d = e.view
@@ -207,7 +209,7 @@ module _ {e : DriverSeen} {s : ShapeSet} {n : LendingSet} {first emitted committ
           go false e = absurd (cc e)
 
     -- the driver that has noted what the command touches, with the shape behind it
-    pub keeps_sent : (s2 : ShapeSet) (n2 : LendingSet) (emitted2 : ℕ)
+    pub keeps_sent : (s2 : ShapeSet) (n2 : LendingSet) (emitted2 next2 : ℕ)
         → emitted2 ≡ length (fences (commands (d.acts ++ Do command ∷ []))) → emitted2 ≤ committed + 1
         → emitted2 ≤ seen + FENCE_WINDOW
         → shape_of (step (run (first_state d) d.acts) (Do command)).kept ≡ shape_in s2
@@ -216,8 +218,9 @@ module _ {e : DriverSeen} {s : ShapeSet} {n : LendingSet} {first emitted committ
         → ((key : PageKey) (cm fs : ℕ) → map.get n2.lent key ≡ Some (Touched cm fs)
         → (fs ≡ fence_behind (commands (d.acts ++ Do command ∷ [])) cm) ×
         (cm < length (commands (d.acts ++ Do command ∷ []))))
-        → IsDriver (record e { view = v }) s2 n2 first emitted2 (committed + 1) seen None
-    keeps_sent s2 n2 emitted2 emits fenced2 window2 shape limits lent touched marks = record {
+        → IsAtNext ring next2 d.layout (length d.sent + length words)
+        → IsDriver ring next2 (record e { view = v }) s2 n2 first emitted2 (committed + 1) seen None
+    keeps_sent s2 n2 emitted2 next2 emits fenced2 window2 shape limits lent touched marks at_next2 = record {
       followed = subst (λ client. IsFollowed d.terms.limits client (known_by v e.pages))
           (client_sent passed rises ∙ ap (λ t. client_by v e.pages t) (sym touched))
           (follows_sent passed rises);
@@ -247,6 +250,7 @@ module _ {e : DriverSeen} {s : ShapeSet} {n : LendingSet} {first emitted committ
           (sym (take-append-le passed (commands d.acts) (command ∷ []) some) ∙ ap (take passed) (sym more));
       some_passed = omega (arith, some, ap length more, length-append (commands d.acts) (command ∷ []));
       asked_is = sym closed;
+      at_next = subst (IsAtNext ring next2 d.layout) (sym (length-append d.sent words)) at_next2;
     }
 
 -- What contracts see of an end with what is noted of its pages.
@@ -301,9 +305,9 @@ Judges s n command answer = (kept : Kept) (lent : FinSet key_cmp) → shape_of k
     → AreLent lent n
     → answer ≡ option_map told (refusal_by kept lent command)
 
-module _ {e : DriverSeen} {s : ShapeSet} {n : LendingSet} {first emitted committed seen : ℕ} {asked :
+module _ {ring : Geometry} {next : ℕ} {e : DriverSeen} {s : ShapeSet} {n : LendingSet} {first emitted committed seen : ℕ} {asked :
     Option ℕ}
-    (o : IsDriver e s n first emitted committed seen asked) (command : Command) (named : ReadsNumbers command
+    (o : IsDriver ring next e s n first emitted committed seen asked) (command : Command) (named : ReadsNumbers command
     → ⊥) where
   pub judged : (answer : Option DriverFault) → Judges s n command answer
       → option_map told (refusal_of (client_by e.view e.pages n.touched) (Commit command)) ≡ answer
@@ -363,9 +367,9 @@ same_or_settled d = go (d.request.number == d.reply_loads.last) refl where
   go true e = let same : d.request.number ≡ d.reply_loads.last = grind (arith, nat_tests, e) in same
   go false e = refl
 
-pub may_send : {e : DriverSeen} {s : ShapeSet} {n : LendingSet} {first emitted committed seen : ℕ} {asked :
+pub may_send : {ring : Geometry} {next : ℕ} {e : DriverSeen} {s : ShapeSet} {n : LendingSet} {first emitted committed seen : ℕ} {asked :
     Option ℕ}
-    (o : IsDriver e s n first emitted committed seen asked) (command : Command) (f : DriverSeen)
+    (o : IsDriver ring next e s n first emitted committed seen asked) (command : Command) (f : DriverSeen)
     (words : List ℕ)
     → refusal_of (client_by e.view e.pages n.touched) (Commit command) ≡ None
     → IsNextFence e.view.terms.first (commands e.view.acts) e.view.seen command
@@ -381,9 +385,9 @@ may_send {e} {n = n} o command f words none next well spelled is =
       fence = next;
     })
 
-pub may_send_plain : {e : DriverSeen} {s : ShapeSet} {n : LendingSet} {first emitted committed seen :
+pub may_send_plain : {ring : Geometry} {next : ℕ} {e : DriverSeen} {s : ShapeSet} {n : LendingSet} {first emitted committed seen :
     ℕ} {asked : Option ℕ}
-    (o : IsDriver e s n first emitted committed seen asked) (command : Command) (f : DriverSeen)
+    (o : IsDriver ring next e s n first emitted committed seen asked) (command : Command) (f : DriverSeen)
     (words : List ℕ)
     → (ReadsNumbers command → ⊥) → Judges s n command None → fence_value command ≡ None
     → IsWellFormed command → words ≡ spelling command → f.view ≡ settled e.view → MaySend f.view words command
@@ -400,9 +404,9 @@ none_after d = go (d.request.number == d.reply_loads.last) refl where
       ap (λ t. if t then None else Some d.request.number) same
 
 -- An end that is settled, and then loads STOP, and perhaps sends.
-module _ {e : DriverSeen} {s : ShapeSet} {n : LendingSet} {first emitted committed seen : ℕ} {asked :
+module _ {ring : Geometry} {next : ℕ} {e : DriverSeen} {s : ShapeSet} {n : LendingSet} {first emitted committed seen : ℕ} {asked :
     Option ℕ}
-    (o : IsDriver e s n first emitted committed seen asked) (f g : DriverSeen) (now : Option ℕ)
+    (o : IsDriver ring next e s n first emitted committed seen asked) (f g : DriverSeen) (now : Option ℕ)
     (same : f ≡ record e { view = f.view }) (is : f.view ≡ settled e.view)
     (now_is : now ≡ open_request f.view)
     (after : g ≡ record f { view = g.view }) where
@@ -423,25 +427,26 @@ module _ {e : DriverSeen} {s : ShapeSet} {n : LendingSet} {first emitted committ
     pub base : StopTold (record e.view { reply_loads = replies }) loaded_view found
     base = subst (λ v. StopTold v loaded_view found) from_view told_by
 
-    pub keeps_lacking : g.view ≡ loaded_view → IsDriver g s n first emitted committed seen now
+    pub keeps_lacking : g.view ≡ loaded_view → IsDriver ring next g s n first emitted committed seen now
     keeps_lacking at =
         let b = base in
         let v : DriverView = view_loaded e.view replies b.stop b.passed (loaded e.view.stop_loads found) in
         let kept = keeps_loads o replies b.stop b.passed
         (loaded e.view.stop_loads found) b.least b.some b.whole in
-        subst (λ x. IsDriver x s n first emitted committed seen now) (sym (end_is v (at ∙ b.view)))
-        (subst (IsDriver (record e { view = v }) s n first emitted committed seen)
+        subst (λ x. IsDriver ring next x s n first emitted committed seen now) (sym (end_is v (at ∙ b.view)))
+        (subst (IsDriver ring next (record e { view = v }) s n first emitted committed seen)
         (ap open_request (sym from_view) ∙ sym now_is) kept)
 
-    pub keeps_all : (command : Command) (words : List ℕ) (s2 : ShapeSet) (n2 : LendingSet)
+    pub keeps_all : (command : Command) (words : List ℕ) (s2 : ShapeSet) (n2 : LendingSet) (next2 : ℕ)
         → g.view ≡ committing loaded_view command words
         → refusal_of (client_by e.view e.pages n.touched) (Commit command) ≡ None
         → words ≡ spelling command → fence_value command ≡ None
         → shape_of (step (run (first_state e.view) e.view.acts) (Do command)).kept ≡ shape_in s2
         → n2 ≡ all_touched (touched_places (run (first_state e.view) e.view.acts).kept command) committed
         (emitted + 1) n
-        → IsDriver g s2 n2 first emitted (committed + 1) seen now
-    keeps_all command words s2 n2 at none spelled no_fence shape noted =
+        → IsAtNext ring next2 e.view.layout (length e.view.sent + length words)
+        → IsDriver ring next2 g s2 n2 first emitted (committed + 1) seen now
+    keeps_all command words s2 n2 next2 at none spelled no_fence shape noted at_next2 =
         let b = base in
         let places : Places = touched_places (run (first_state e.view) e.view.acts).kept command in
         let cs : List Command = commands e.view.acts in
@@ -467,7 +472,7 @@ module _ {e : DriverSeen} {s : ShapeSet} {n : LendingSet} {first emitted committ
         ) in
         let kept = keeps_sent o command none replies b.stop b.passed (loaded e.view.stop_loads found) words
         (subst NoneOpen (settled_is e.view) (same_or_settled e.view)) b.least b.some b.whole spelled
-        s2 n2 emitted
+        s2 n2 emitted next2
         (o.emitted_are ∙ sym (ap (λ l. length (fences l)) more ∙ fences_after cs command no_fence))
         (omega (arith, o.fenced)) o.window shape
         (ap (λ (x : LendingSet). x.limits) noted ∙ all_limits places committed (emitted + 1) n)
@@ -475,10 +480,11 @@ module _ {e : DriverSeen} {s : ShapeSet} {n : LendingSet} {first emitted committ
         (emitted + 1) n o.lent_are lent_none))
         (ap (λ (x : LendingSet). x.touched) noted ∙ all_marked places committed (emitted + 1) n
         ∙ ap (λ m. marked places m n.touched) o.committed_are)
-        (subst (λ x. Noted x Q) (sym noted) (all_noted Q places committed (emitted + 1) n here was)) in
-        subst (λ x. IsDriver x s2 n2 first emitted (committed + 1) seen now)
+        (subst (λ x. Noted x Q) (sym noted) (all_noted Q places committed (emitted + 1) n here was))
+        at_next2 in
+        subst (λ x. IsDriver ring next2 x s2 n2 first emitted (committed + 1) seen now)
         (sym (end_is v (at ∙ ap (λ w. committing w command words) b.view)))
-        (subst (IsDriver (record e { view = v }) s2 n2 first emitted (committed + 1) seen)
+        (subst (IsDriver ring next2 (record e { view = v }) s2 n2 first emitted (committed + 1) seen)
         (sym none_now) kept)
 
     pub answers_all : (command : Command) (words : List ℕ) (n2 : LendingSet)
@@ -540,9 +546,9 @@ touched_by_shape kept s t command same frame region =
     go None = refl
     go (Some id) = refl
 
-pub admitted : {e : DriverSeen} {s : ShapeSet} {n : LendingSet} {first emitted committed seen : ℕ} {asked :
+pub admitted : {ring : Geometry} {next : ℕ} {e : DriverSeen} {s : ShapeSet} {n : LendingSet} {first emitted committed seen : ℕ} {asked :
     Option ℕ}
-    (o : IsDriver e s n first emitted committed seen asked) (command : Command) → (ReadsNumbers command → ⊥)
+    (o : IsDriver ring next e s n first emitted committed seen asked) (command : Command) → (ReadsNumbers command → ⊥)
     → refusal_of (client_by e.view e.pages n.touched) (Commit command) ≡ None
     → IsAdmitted (shape_in s) command
 admitted {e} {n = n} o command named none =

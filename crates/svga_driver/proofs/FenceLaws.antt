@@ -10,7 +10,7 @@ use Rattle.svga_cmd.specs.declared.command.Command.TheVariants.{Fence}
 use Rattle.svga_cmd.specs.declared.constants.TheConstants.{FENCE_WINDOW}
 use Rattle.svga_driver.proofs.CommitLaws.{answers_all, base, end_is, none_now, has, has_view, keeps_sent, may_send, same_or_settled, settled_is, view_after}
 use Rattle.svga_driver.specs.CommitAnswers.{FenceAnswers, IsCommitted}
-use Rattle.svga_driver.specs.Driving.{IsDriver, client_by, open_request, settled}
+use Rattle.svga_driver.specs.Driving.{IsAtNext, IsDriver, client_by, open_request, settled}
 use Rattle.svga_driver.specs.LendingSet.{LendingSet}
 use Rattle.svga_driver.specs.Sending.{HasNoRoomFor}
 use Rattle.svga_driver.specs.declared.fault.DriverFault.{DriverFault}
@@ -31,6 +31,7 @@ use Rattle.svga_ring.proofs.Words.NextCommand.{commands-append}
 use Rattle.svga_ring.specs.Committed.{commands}
 use Rattle.svga_ring.specs.Conditions.{NoneOpen}
 use Rattle.svga_ring.specs.Views.{DriverView, loaded}
+use Rattle.svga_ring.specs.declared.plans.Geometry.{Geometry}
 use Rattle.svga_shape.specs.ShapeSet.{ShapeSet}
 
 -- a FENCE is never refused
@@ -38,9 +39,9 @@ fence_admits : (s : State) (value : ℕ) → fault_of s (Do (Fence value)) ≡ N
 unfolding fault_of
 fence_admits s value = refl
 
-module _ {e : DriverSeen} {s : ShapeSet} {n : LendingSet} {first emitted committed seen : ℕ} {asked :
+module _ {ring : Geometry} {next : ℕ} {e : DriverSeen} {s : ShapeSet} {n : LendingSet} {first emitted committed seen : ℕ} {asked :
     Option ℕ}
-    (o : IsDriver e s n first emitted committed seen asked) (value : ℕ) where
+    (o : IsDriver ring next e s n first emitted committed seen asked) (value : ℕ) where
   pub fence_granted : refusal_of (client_by e.view e.pages n.touched) (Commit (Fence value)) ≡ None
   fence_granted = ap (λ f. option_or (option_map Refused f) None)
       (fence_admits (client_by e.view e.pages n.touched).state value)
@@ -61,10 +62,12 @@ module _ {e : DriverSeen} {s : ShapeSet} {n : LendingSet} {first emitted committ
       (is : f.view ≡ settled e.view)
       (now_is : now ≡ open_request f.view) (after : g ≡ record f { view = g.view }) where
     pub keeps_fence : (found : ℕ) (loaded_view : DriverView) (told_by : StopTold f.view loaded_view found)
-        (words : List ℕ)
+        (words : List ℕ) (next2 : ℕ)
         → g.view ≡ committing loaded_view (Fence value) words → words ≡ spelling (Fence value)
-        → emitted < seen + FENCE_WINDOW → IsDriver g s n first (emitted + 1) (committed + 1) seen now
-    keeps_fence found loaded_view told_by words at spelled fewer =
+        → emitted < seen + FENCE_WINDOW
+        → IsAtNext ring next2 e.view.layout (length e.view.sent + length words)
+        → IsDriver ring next2 g s n first (emitted + 1) (committed + 1) seen now
+    keeps_fence found loaded_view told_by words next2 at spelled fewer at_next2 =
         let b = base o f g now same is now_is after found loaded_view told_by in
         let cs : List Command = commands e.view.acts in
         let x = Do (Fence value) in
@@ -80,18 +83,18 @@ module _ {e : DriverSeen} {s : ShapeSet} {n : LendingSet} {first emitted committ
         let kept = keeps_sent o (Fence value) fence_granted (settled e.view).reply_loads b.stop b.passed
         (loaded e.view.stop_loads found) words
         (subst NoneOpen (settled_is e.view) (same_or_settled e.view)) b.least b.some b.whole spelled
-        s n (emitted + 1)
+        s n (emitted + 1) next2
         (let all = ap (λ l. length (fences l)) more in omega (arith, o.emitted_are, all, count))
         (omega (arith, o.fenced)) (omega (arith, fewer)) o.shape_is refl o.lent_are refl
         (λ key cm fs got. (
           (o.marks key cm fs got).0 ∙ sym (mark_kept cs (Fence value) cm (o.marks key cm fs got).1)
               ∙ ap (λ l. fence_behind l cm) (sym more),
           (let low = (o.marks key cm fs got).1 in omega (arith, low, longer)),
-        )) in
-        subst (λ y. IsDriver y s n first (emitted + 1) (committed + 1) seen now)
+        )) at_next2 in
+        subst (λ y. IsDriver ring next2 y s n first (emitted + 1) (committed + 1) seen now)
         (sym (end_is o f g now same is now_is after v (at
         ∙ ap (λ w. committing w (Fence value) words) b.view)))
-        (subst (IsDriver (record e { view = v }) s n first (emitted + 1) (committed + 1) seen)
+        (subst (IsDriver ring next2 (record e { view = v }) s n first (emitted + 1) (committed + 1) seen)
         (sym (none_now o f g now same is now_is after)) kept)
 
     pub fence_done : (found : ℕ) (loaded_view : DriverView) (told_by : StopTold f.view loaded_view found)

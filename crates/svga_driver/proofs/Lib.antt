@@ -1,9 +1,13 @@
+mod ChainLaws
 mod CommitLaws
+mod DescribeLaws
+mod DeviceLaws
 mod FenceLaws
 mod LendingLaws
 mod LoadLaws
 mod OpeningLaws
 mod PageCalls
+mod RereadLaws
 mod Rows
 mod SendLaws
 mod TakeLaws

@@ -12,7 +12,7 @@ use Rattle.svga_cmd.proofs.KeyLaws.{keys_exact, keys_total}
 use Rattle.svga_cmd.proofs.Maps.{by_key, get_other, get_same}
 use Rattle.svga_cmd.proofs.MemoryLaws.{one_zero_memory}
 use Rattle.svga_cmd.specs.Pages.{IsZeroMemoryOf, Memory, key_cmp, page_at}
-use Rattle.svga_cmd.specs.declared.constants.TheConstants.{PAGE_SIZE}
+use Rattle.svga_cmd.specs.declared.constants.TheConstants.{PAGE_SIZE, RING_START}
 use Rattle.svga_cmd.specs.declared.limits.Limits.{Limits}
 use Rattle.svga_cmd.specs.declared.page.PageKey.{PageKey}
 use Rattle.svga_cmd.specs.declared.screen.ScreenDef.{ScreenDef}
@@ -24,6 +24,7 @@ use Rattle.svga_model.proofs.ValidMemory.{opening_has, opening_pages}
 use Rattle.svga_model.specs.Screens.{Screen, Screens, definitions_of}
 use Rattle.svga_model.specs.States.{all_keys, opening_memory}
 use Rattle.svga_ring.specs.Views.{opening_driver}
+use Rattle.svga_ring.specs.declared.plans.Geometry.{Geometry}
 use Rattle.svga_shape.specs.ShapeSet.{ShapeSet, opening_shape}
 
 -- pages that all have the same bytes
@@ -60,10 +61,14 @@ none_defined id = go (map.get no_screens id) (get-empty nat_cmp id) where
   go None e = sym (get-empty nat_cmp id)
   go (Some s) e = absurd (none-some s (sym e))
 
+-- the ring of a session
+abbrev pub opening_ring : Session → Geometry
+opening_ring session = record { min = RING_START; max = session.ring }
+
 opens_so : (session : Session) (e : DriverSeen) → e.reserved ≡ 0 → e.words ≡ []
     → e.view ≡ opening_driver session
     → e.pages ≡ opening_memory session.limits
-    → IsDriver (record e { view = opening_driver session; pages = opening_memory session.limits })
+    → IsDriver (opening_ring session) RING_START (record e { view = opening_driver session; pages = opening_memory session.limits })
     (opening_shape session.limits) (none_lent session.limits) session.first 0 0 0 None
 opens_so session e reserved words view pages = record {
   followed = subst (λ c. IsFollowed session.limits c
@@ -95,25 +100,41 @@ opens_so session e reserved words view pages = record {
   passed = refl;
   some_passed = omega arith;
   asked_is = refl;
+  at_next = record {
+    ring_is = refl;
+    ring_good = record {
+      min_whole = refl;
+      max_whole = session.within.whole_words;
+      some = let least = session.within.ring_end.least in omega (arith, least);
+      most = let most = session.within.ring_end.most in omega (arith, most);
+    };
+    none_before = refl;
+    offset = record {
+      whole = refl;
+      least = omega arith;
+      below = let least = session.within.ring_end.least in omega (arith, least);
+    };
+    next_is = omega arith;
+  };
 }
 
 pub opens : (session : Session) (e : DriverSeen) (s : ShapeSet) (n : LendingSet)
     → e.view ≡ opening_driver session
     → e.reserved ≡ 0 → e.words ≡ [] → IsZeroMemoryOf session.limits e.pages
     → s ≡ opening_shape session.limits → n ≡ none_lent session.limits
-    → IsDriver e s n session.first 0 0 0 None
+    → IsDriver (opening_ring session) RING_START e s n session.first 0 0 0 None
 opens session e s n view reserved words zeros shape none =
     let pages : e.pages ≡ opening_memory session.limits =
     one_zero_memory session.limits e.pages (opening_memory session.limits) zeros
     (opening_zero session.limits) in
     let whole : e ≡ record e { view = opening_driver session; pages = opening_memory session.limits } =
     (λ i. record e { view = view i; pages = pages i }) in
-    subst (λ x. IsDriver x s n session.first 0 0 0 None) (sym whole)
-    (subst (λ x. IsDriver (record e {
+    subst (λ x. IsDriver (opening_ring session) RING_START x s n session.first 0 0 0 None) (sym whole)
+    (subst (λ x. IsDriver (opening_ring session) RING_START (record e {
       view = opening_driver session;
       pages =
           opening_memory session.limits;
     }) x n session.first 0 0 0 None) (sym shape)
-    (subst (λ x. IsDriver (record e { view = opening_driver session; pages = opening_memory session.limits })
+    (subst (λ x. IsDriver (opening_ring session) RING_START (record e { view = opening_driver session; pages = opening_memory session.limits })
     (opening_shape session.limits) x session.first 0 0 0 None) (sym none)
     (opens_so session e reserved words view pages)))

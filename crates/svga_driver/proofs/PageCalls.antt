@@ -32,9 +32,10 @@ use Rattle.svga_model.specs.Clients.{Client, page_tests}
 use Rattle.svga_model.specs.Fences.{fences}
 use Rattle.svga_model.specs.Sentences.{spelling_all}
 use Rattle.svga_model.specs.States.{shape_of}
-use Rattle.svga_shape.specs.ShapeSet.{ShapeSet}
+use Rattle.svga_shape.specs.ShapeSet.{ShapeSet, shape_in}
 use Rattle.svga_ring.proofs.Pages.Locations.{in_here, in_other, out_here, out_other}
 use Rattle.svga_ring.specs.Committed.{commands}
+use Rattle.svga_ring.specs.declared.plans.Geometry.{Geometry}
 
 -- why a page can't be had: it isn't there, or it is lent
 abbrev pub why_not : PageKey → Bool → Bool → Option ClientFault
@@ -78,15 +79,15 @@ pub followed_as : (l : Limits) (c : Client) (k : Known) → IsFollowed l c k →
 followed_as l c k o = subst (λ x. IsFollowed l x k) (client_is o) o
 
 -- what a driver keeps when pages come or go
-pub driver_with_pages : (e : DriverSeen) (s : ShapeSet) (n n' : LendingSet) (first emitted committed seen : ℕ) (asked : Option ℕ) (acts : List Act)
-    (lent : FinSet key_cmp) (own : Memory) (c : Client) → IsDriver e s n first emitted committed seen asked
+pub driver_with_pages : {ring : Geometry} {next : ℕ} (e : DriverSeen) (s : ShapeSet) (n n' : LendingSet) (first emitted committed seen : ℕ) (asked : Option ℕ) (acts : List Act)
+    (lent : FinSet key_cmp) (own : Memory) (c : Client) → IsDriver ring next e s n first emitted committed seen asked
     → IsFollowed e.view.terms.limits c (record (known_by e.view own) { acts = acts; lent = lent })
     → c ≡ client_by (record e.view { acts = acts; lent = lent }) own n'.touched
     → c.state.kept ≡ (client_by e.view e.pages n.touched).state.kept → c.commands ≡ commands e.view.acts
     → n'.limits ≡ n.limits → AreLent lent n'
     → ((key : PageKey) (command fences : ℕ) → map.get n'.lent key ≡ Some (Touched command fences)
     → map.get n.lent key ≡ Some (Touched command fences))
-    → IsDriver (record e { view = record e.view { acts = acts; lent = lent }; pages = own }) s n' first emitted committed seen asked
+    → IsDriver ring next (record e { view = record e.view { acts = acts; lent = lent }; pages = own }) s n' first emitted committed seen asked
 driver_with_pages e s n n' first emitted committed seen asked acts lent own c is o client kept same limits lent_are marks =
     let cs : commands acts ≡ commands e.view.acts = sym o.commands_are ∙ same in
     let now = subst (λ x. IsFollowed e.view.terms.limits x (record (known_by e.view own) { acts = acts; lent = lent })) client o in record {
@@ -111,7 +112,37 @@ driver_with_pages e s n n' first emitted committed seen asked acts lent own c is
       passed = is.passed ∙ ap (λ l. length (spelling_all (take e.view.passed l))) (sym cs);
       some_passed = omega (arith, is.some_passed, ap length cs);
       asked_is = is.asked_is;
+      at_next = is.at_next;
     }
+
+-- A driver with another shape that says the same.
+pub other_shape : {ring : Geometry} {next : ℕ} {e : DriverSeen} {s : ShapeSet} {n : LendingSet}
+    {first emitted committed seen : ℕ} {asked : Option ℕ}
+    → IsDriver ring next e s n first emitted committed seen asked → (s2 : ShapeSet)
+    → shape_in s2 ≡ shape_in s → IsDriver ring next e s2 n first emitted committed seen asked
+other_shape is s2 same = record {
+  followed = is.followed;
+  none_reserved = is.none_reserved;
+  none_put = is.none_put;
+  runs = is.runs;
+  large = is.large;
+  shape_is = is.shape_is ∙ sym same;
+  limits_are = is.limits_are;
+  lent_are = is.lent_are;
+  marks = is.marks;
+  first_is = is.first_is;
+  some_first = is.some_first;
+  emitted_are = is.emitted_are;
+  committed_are = is.committed_are;
+  fenced = is.fenced;
+  counted = is.counted;
+  seen_are = is.seen_are;
+  window = is.window;
+  passed = is.passed;
+  some_passed = is.some_passed;
+  asked_is = is.asked_is;
+  at_next = is.at_next;
+}
 
 -- the lent pages, with one more, and with one fewer
 pub lent_more : (lent : FinSet key_cmp) (n : LendingSet) (key : PageKey) → AreLent lent n
@@ -153,8 +184,8 @@ both_first false b is = is
 abbrev pub has : DriverSeen → LendingSet → DriverHas
 has e n = record { table = e.table; view = e.view; own = e.pages; touched = n.touched }
 
-module _ {e : DriverSeen} {s : ShapeSet} {n : LendingSet} {first emitted committed seen : ℕ} {asked : Option ℕ}
-    (is : IsDriver e s n first emitted committed seen asked) (key : PageKey) where
+module _ {ring : Geometry} {next : ℕ} {e : DriverSeen} {s : ShapeSet} {n : LendingSet} {first emitted committed seen : ℕ} {asked : Option ℕ}
+    (is : IsDriver ring next e s n first emitted committed seen asked) (key : PageKey) where
   -- why its page can't be had
   pub page_why : (bytes : ℕ) (there lent : Bool) → (is_key n.limits key && nat_le bytes PAGE_SIZE) ≡ there
       → set.contains e.view.lent key ≡ lent
@@ -173,11 +204,11 @@ module _ {e : DriverSeen} {s : ShapeSet} {n : LendingSet} {first emitted committ
   -- it is lent
   pub lend_kept : first_true (page_tests (client_in (has e n)) key 0) ≡ None → (e' : DriverSeen) (n' : LendingSet)
       → e' ≡ record e { view = lending e.view key (page_bytes e.pages key); pages = map.remove e.pages key }
-      → n' ≡ with_lent n key → IsDriver e' s n' first emitted committed seen asked
+      → n' ≡ with_lent n key → IsDriver ring next e' s n' first emitted committed seen asked
   lend_kept none e' n' end_is lendings_are =
       let o = call_lend is.followed key none in
-      subst (λ x. IsDriver x s n' first emitted committed seen asked) (sym end_is)
-      (subst (λ m. IsDriver (record e { view = lending e.view key (page_bytes e.pages key); pages = map.remove e.pages key }) s m first emitted committed seen asked)
+      subst (λ x. IsDriver ring next x s n' first emitted committed seen asked) (sym end_is)
+      (subst (λ m. IsDriver ring next (record e { view = lending e.view key (page_bytes e.pages key); pages = map.remove e.pages key }) s m first emitted committed seen asked)
       (sym lendings_are)
       (driver_with_pages e s n (with_lent n key) first emitted committed seen asked _ _ _ _ is o (client_is o) refl refl refl
       (lent_more e.view.lent n key is.lent_are) (λ q command fences at. marks_more n key q command fences at)))
@@ -197,10 +228,10 @@ module _ {e : DriverSeen} {s : ShapeSet} {n : LendingSet} {first emitted committ
   -- or written
   pub write_kept : (offset : ℕ) (bytes : List ℕ) → first_true (page_tests (client_in (has e n)) key (offset + length bytes)) ≡ None
       → (e' : DriverSeen) → e' ≡ record e { pages = writing e.pages key offset bytes }
-      → IsDriver e' s n first emitted committed seen asked
+      → IsDriver ring next e' s n first emitted committed seen asked
   write_kept offset bytes none e' end_is =
       let o = call_write is.followed key offset bytes none in
-      subst (λ x. IsDriver x s n first emitted committed seen asked) (sym end_is)
+      subst (λ x. IsDriver ring next x s n first emitted committed seen asked) (sym end_is)
       (driver_with_pages e s n n first emitted committed seen asked e.view.acts e.view.lent _ _ is o (client_is o) refl refl refl
       is.lent_are (λ q command fences at. at))
 

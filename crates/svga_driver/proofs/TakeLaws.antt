@@ -31,6 +31,7 @@ use Rattle.svga_ring.specs.Committed.{commands}
 use Rattle.svga_ring.specs.Conditions.{NoneOpen}
 use Rattle.svga_ring.specs.TableSteps.{page_left}
 use Rattle.svga_ring.specs.Views.{DriverView}
+use Rattle.svga_ring.specs.declared.plans.Geometry.{Geometry}
 use Rattle.svga_shape.specs.ShapeSet.{ShapeSet}
 
 -- why a page can't be taken back
@@ -48,8 +49,8 @@ why_is key true false unfenced = refl
 why_is key true true true = refl
 why_is key true true false = refl
 
-module _ {e : DriverSeen} {s : ShapeSet} {n : LendingSet} {first emitted committed seen : ℕ} {asked : Option ℕ}
-    (is : IsDriver e s n first emitted committed seen asked) (key : PageKey) where
+module _ {ring : Geometry} {next : ℕ} {e : DriverSeen} {s : ShapeSet} {n : LendingSet} {first emitted committed seen : ℕ} {asked : Option ℕ}
+    (is : IsDriver ring next e s n first emitted committed seen asked) (key : PageKey) where
   pub take_why : (there lent unfenced : Bool) → is_key n.limits key ≡ there → is_some (map.get n.lent key) ≡ lent
       → is_unfenced (commands e.view.acts) (map.get n.touched key) ≡ unfenced
       → refusal_of (client_in (has e n)) (TakePage key) ≡ why_away key there lent unfenced
@@ -61,16 +62,16 @@ module _ {e : DriverSeen} {s : ShapeSet} {n : LendingSet} {first emitted committ
       ∙ why_is key there lent unfenced
 
   same_driver : (e' : DriverSeen) (seen' : ℕ) → e'.view ≡ e.view → e' ≡ record e { view = e'.view } → seen' ≡ e'.view.seen
-      → IsDriver e' s n first emitted committed seen' asked
+      → IsDriver ring next e' s n first emitted committed seen' asked
   same_driver e' seen' view end_is seen_is =
       let now : e' ≡ e = end_is ∙ ap (λ v. record e { view = v }) view in
-      subst (λ x. IsDriver x s n first emitted committed seen' asked) (sym now)
-      (subst (λ m. IsDriver e s n first emitted committed m asked) (is.seen_are ∙ sym (seen_is ∙ ap (λ v. v.seen) view)) is)
+      subst (λ x. IsDriver ring next x s n first emitted committed seen' asked) (sym now)
+      (subst (λ m. IsDriver ring next e s n first emitted committed m asked) (is.seen_are ∙ sym (seen_is ∙ ap (λ v. v.seen) view)) is)
 
   -- FENCE was loaded for it, if it was
   pub driver_passed : (lending : Lending) (answer : Result (Unit {0}) DriverFault) (e' : DriverSeen) (seen' : ℕ)
       → PassAnswers e.view key lending answer e'.view → e' ≡ record e { view = e'.view } → seen' ≡ e'.view.seen
-      → IsDriver e' s n first emitted committed seen' asked
+      → IsDriver ring next e' s n first emitted committed seen' asked
   driver_passed Untouched (Ok done) e' seen' pass end_is seen_is = same_driver e' seen' pass end_is seen_is
   driver_passed Untouched (Err fault) e' seen' pass end_is seen_is = absurd pass
   driver_passed (Touched command count) (Ok done) e' seen' pass end_is seen_is =
@@ -120,7 +121,7 @@ module _ {e : DriverSeen} {s : ShapeSet} {n : LendingSet} {first emitted committ
     pub granted : refusal_of (client_in (has e n)) (TakePage key) ≡ None
     granted = take_why true true false there (ap is_some at) (none_unfenced lending e'.view at touched pass)
 
-    now : IsDriver e' s n first emitted committed seen' asked
+    now : IsDriver ring next e' s n first emitted committed seen' asked
     now = driver_passed lending (Ok tt) e' seen' pass end_is seen_is
 
     granted_now : refusal_of (client_in (has e' n)) (TakePage key) ≡ None
@@ -139,11 +140,11 @@ module _ {e : DriverSeen} {s : ShapeSet} {n : LendingSet} {first emitted committ
 
     pub take_kept : (e'' : DriverSeen) (n'' : LendingSet)
         → e'' ≡ record e' { view = taking e'.view key; pages = map.insert e'.pages key (page_left e'.view key) }
-        → n'' ≡ without n key → IsDriver e'' s n'' first emitted committed seen' asked
+        → n'' ≡ without n key → IsDriver ring next e'' s n'' first emitted committed seen' asked
     take_kept e'' n'' left_is lendings_are =
         let o = call_take now.followed key granted_now behind_now in
-        subst (λ x. IsDriver x s n'' first emitted committed seen' asked) (sym left_is)
-        (subst (λ m. IsDriver (record e' { view = taking e'.view key; pages = map.insert e'.pages key (page_left e'.view key) }) s m first emitted committed seen' asked)
+        subst (λ x. IsDriver ring next x s n'' first emitted committed seen' asked) (sym left_is)
+        (subst (λ m. IsDriver ring next (record e' { view = taking e'.view key; pages = map.insert e'.pages key (page_left e'.view key) }) s m first emitted committed seen' asked)
         (sym lendings_are)
         (driver_with_pages e' s n (without n key) first emitted committed seen' asked e'.view.acts _ _ _ now o (client_is o) refl refl refl
         (lent_fewer e'.view.lent n key now.lent_are) (λ q command count there. marks_fewer n key q command count there)))
@@ -192,8 +193,8 @@ none_open_settled d = go (d.request.number == d.reply_loads.last) refl where
   go false e = refl
 
 -- Said of the driver as it was before its request was settled.
-module _ (e : DriverSeen) {e1 : DriverSeen} {s : ShapeSet} {n : LendingSet} {first emitted committed seen : ℕ} {asked : Option ℕ}
-    (is : IsDriver e1 s n first emitted committed seen asked) (key : PageKey) (settled_is : e1.view ≡ settled e.view)
+module _ (e : DriverSeen) {ring : Geometry} {next : ℕ} {e1 : DriverSeen} {s : ShapeSet} {n : LendingSet} {first emitted committed seen : ℕ} {asked : Option ℕ}
+    (is : IsDriver ring next e1 s n first emitted committed seen asked) (key : PageKey) (settled_is : e1.view ≡ settled e.view)
     (end_is : e1 ≡ record e { view = e1.view }) (lending : Lending) (at : map.get n.lent key ≡ Some lending)
     (touched : map.get n.touched key ≡ command_of lending) (there : is_key n.limits key ≡ true) where
   same_end : e1 ≡ record e { view = record e.view { reply_loads = (settled e.view).reply_loads } }

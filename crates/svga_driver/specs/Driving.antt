@@ -20,7 +20,11 @@ use Rattle.svga_model.specs.Sentences.{spelling_all}
 use Rattle.svga_model.specs.States.{shape_of}
 use Rattle.svga_ring.specs.Committed.{commands}
 use Rattle.svga_ring.specs.Conditions.{first_state}
+use Rattle.svga_ring.specs.Layouts.{Layout}
+use Rattle.svga_ring.specs.RingPieces.{geometry_of}
+use Rattle.svga_ring.specs.Rings.{IsOffset, IsRing, address_in}
 use Rattle.svga_ring.specs.Views.{DriverView}
+use Rattle.svga_ring.specs.declared.plans.Geometry.{Geometry}
 use Rattle.svga_shape.specs.ShapeSet.{ShapeSet, shape_in}
 
 -- its table and view, the pages that are with it, and for each lent page the number of the last command of
@@ -65,10 +69,19 @@ MAX_SENT_WORDS = 2053
 abbrev pub IsShort : DriverView → Type 0
 IsShort d = length d.sent + MAX_SENT_WORDS < 2 ^ 62
 
--- What a driver keeps: an end, a shape, what happened to the lent pages, the number of the first fence, how
--- many fences and commands were committed and how many fences were seen, and the open request.
-pub record IsDriver (e : DriverSeen) (s : ShapeSet) (n : LendingSet) (first emitted committed seen : ℕ)
-    (asked : Option ℕ) : Type 0 where
+-- the ring of this layout, and the offset of NEXT_CMD behind so many words
+pub record IsAtNext (ring : Geometry) (next : ℕ) (layout : Layout) (sent : ℕ) : Type 0 where
+  pub ring_is : ring ≡ geometry_of layout
+  pub ring_good : IsRing ring
+  pub none_before : layout.base ≡ 0
+  pub offset : IsOffset ring next
+  pub next_is : next ≡ address_in ring sent
+
+-- What a driver keeps: the ring and NEXT_CMD, an end, a shape, what happened to the lent pages, the number of
+-- the first fence, how many fences and commands were committed and how many fences were seen, and the open
+-- request.
+pub record IsDriver (ring : Geometry) (next : ℕ) (e : DriverSeen) (s : ShapeSet) (n : LendingSet)
+    (first emitted committed seen : ℕ) (asked : Option ℕ) : Type 0 where
   pub followed : IsFollowed e.view.terms.limits (client_by e.view e.pages n.touched) (known_by e.view e.pages)
   -- nothing is reserved, the end runs, and its ring is larger than each command
   pub none_reserved : e.reserved ≡ 0
@@ -94,3 +107,4 @@ pub record IsDriver (e : DriverSeen) (s : ShapeSet) (n : LendingSet) (first emit
   pub passed : e.view.stop ≡ length (spelling_all (take e.view.passed (commands e.view.acts)))
   pub some_passed : e.view.passed ≤ length (commands e.view.acts)
   pub asked_is : asked ≡ open_request e.view
+  pub at_next : IsAtNext ring next e.view.layout (length e.view.sent)

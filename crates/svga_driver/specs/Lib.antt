@@ -1,7 +1,9 @@
 pub mod Answering
 pub mod CommitAnswers
+pub mod DescribeAnswers
 pub mod Driving
 pub mod LendingSet
 pub mod PageAnswers
 pub mod RequestAnswers
 pub mod Sending
+pub mod Walking

@@ -10,7 +10,7 @@ use crate::driver::Driver;
 use crate::fault::DriverFault;
 use crate::judging::judge;
 use crate::requests::settle_request;
-use crate::sending::send;
+use crate::sending::{behind, send};
 use crate::touching::note_touch;
 use svga_cmd::CommandRef;
 
@@ -53,6 +53,7 @@ impl Driver {
         );
         self.shape.apply(command);
         self.committed += 1;
+        self.next = behind(self.ring, self.next, front.len() + rest.len());
         Ok(())
     }
 }

@@ -8,7 +8,9 @@ use crate::lending::Lendings;
 use std::alloc::{AllocError, Global};
 use std::marker::Model;
 use svga_cmd::Session;
+use svga_cmd::constants::RING_START;
 use svga_link::{DeviceEnd, DriverEnd, make};
+use svga_ring::Geometry;
 use svga_shape::Shape;
 
 /// The driver's side of a session, for one client. It stands for a client's state (`client_in`), as if the
@@ -18,6 +20,9 @@ pub struct Driver {
     pub(crate) end: DriverEnd,
     pub(crate) shape: Shape,
     pub(crate) lendings: Lendings,
+    /// The ring, and the offset of NEXT_CMD.
+    pub(crate) ring: Geometry,
+    pub(crate) next: u32,
     /// The number of the first fence.
     pub(crate) first: u32,
     /// How many fences and how many commands were committed, and how many fences were seen.
@@ -47,7 +52,7 @@ impl Model for Driver {
     } };
 
     ghost invariant = { λ d.
-        IsDriver d.end d.shape d.lendings d.first d.emitted d.committed d.seen d.asked };
+        IsDriver d.ring d.next d.end d.shape d.lendings d.first d.emitted d.committed d.seen d.asked };
 }
 
 impl Driver {
@@ -64,10 +69,16 @@ impl Driver {
         let shape = Shape::new(alloc, session.limits)?;
         let lendings = Lendings::new(alloc, session.limits)?;
         let (end, device) = make(alloc, &session)?;
+        let ring = Geometry {
+            min: RING_START,
+            max: session.ring,
+        };
         let driver = Driver {
             end,
             shape,
             lendings,
+            ring,
+            next: RING_START,
             first: session.first,
             emitted: 0,
             committed: 0,

@@ -2,7 +2,7 @@
 use crate::driver::Driver;
 use crate::fault::{DriverFault, Fence};
 use crate::requests::settle_request;
-use crate::sending::send;
+use crate::sending::{behind, send};
 use svga_cmd::constants::FENCE_WINDOW;
 use svga_cmd::{Command, encode_short};
 use svga_ring::fence_number;
@@ -28,6 +28,7 @@ impl Driver {
         }
         self.emitted += 1;
         self.committed += 1;
+        self.next = behind(self.ring, self.next, words.as_slice().len());
         Ok(Fence { number })
     }
 }

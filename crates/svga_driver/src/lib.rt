@@ -4,6 +4,7 @@
 mod closing;
 mod commands;
 mod committing;
+mod describing;
 mod driver;
 mod fault;
 mod fencing;
@@ -14,10 +15,13 @@ mod requests;
 mod sending;
 mod taking;
 mod touching;
+mod walking;
 
 pub use closing::Unsettled;
 pub use driver::Driver;
 pub use fault::{DriverFault, Fence, Posted};
 
+#[cfg(test)]
+mod device_tests;
 #[cfg(test)]
 mod tests;

@@ -3,11 +3,15 @@ ghost use Rattle.std.specs.Prelude.{◌≡◌, ℕ, ◌+◌, ◌*◌, ◌≤◌,
 ghost use Rattle.svga_cmd.specs.Spelling.{Spells};
 ghost use Rattle.svga_cmd.specs.declared.command.Command.{Command};
 ghost use Rattle.svga_driver.specs.Sending.{SendAnswers};
+ghost use Rattle.svga_driver.specs.Driving.{IsAtNext};
 ghost use Rattle.svga_link.specs.Reserving.{MaySend};
 ghost use Rattle.svga_link.specs.ReserveAnswers.{ring_bytes};
+ghost use Rattle.svga_ring.specs.Layouts.{Layout};
+ghost use Rattle.svga_ring.specs.Rings.{size_of};
 
 use crate::fault::DriverFault;
 use svga_link::{DriverEnd, ReserveFault};
+use svga_ring::{Geometry, advance};
 
 // Puts words into the reservation.
 fn put_words(end: &mut DriverEnd, words: &[u32])
@@ -48,4 +52,14 @@ pub(crate) fn send(end: &mut DriverEnd, front: &[u32], rest: &[u32]) -> Result<(
             Ok(())
         }
     }
+}
+
+/// The offset of NEXT_CMD behind so many words more.
+pub(crate) fn behind(ring: Geometry, next: u32, words: usize) -> u32
+    requires here { (layout : Layout) × (sent : ℕ) × IsAtNext ring next layout sent }
+    requires fits { 4 * words < size_of ring }
+    ensures { (layout : Layout) (sent : ℕ) → IsAtNext ring next layout sent
+        → IsAtNext ring result layout (sent + words) }
+{
+    advance(ring, next, 4 * words as u32)
 }

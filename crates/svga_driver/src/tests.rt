@@ -1,4 +1,5 @@
 //! Sessions of a driver whose device does nothing, by worked cases.
+ghost use Rattle.std.specs.FinMap as map;
 ghost use Rattle.std.specs.Prelude.{◌≡◌, ◌+◌, ◌≤◌, [], length};
 ghost use Rattle.svga_driver.specs.Driving.{IsShort, MAX_SENT_WORDS};
 
@@ -6,6 +7,7 @@ use crate::{Driver, DriverFault};
 use std::alloc::Global;
 use std::process::Abort;
 use svga_cmd::{Blit, Fault, Format, Gmrfb, Limits, PageKey, Point, Rect, Session, Way};
+use svga_link::DeviceEnd;
 
 const GUEST: PageKey = PageKey::Guest(0);
 
@@ -27,9 +29,12 @@ const ALL: Blit = Blit {
     screen: 0,
 };
 
-// The driver of a session with a ring as small as there is, and two pages.
-fn driver(rt: &impl Abort, alloc: Global, first: u32) -> Driver
-    ensures { result.view.sent ≡ [] }
+// The driver of a session with a ring as small as there is and two pages, and its device's end, whose FENCE
+// is the number below the first.
+pub(crate) fn ends(rt: &impl Abort, alloc: Global, first: u32) -> (Driver, DeviceEnd)
+    ensures none_sent { result.0.view.sent ≡ [] }
+    ensures none_read { result.1.view.read ≡ [] }
+    ensures none_noted { result.1.view.noted ≡ map.empty }
 {
     let limits = Limits {
         pages: 2,
@@ -41,13 +46,14 @@ fn driver(rt: &impl Abort, alloc: Global, first: u32) -> Driver
         rt,
         "numbers within their limits",
     );
-    let (driver, _device) = Driver::new(alloc, session).expect(rt, "memory");
-    driver
+    let (driver, device) = Driver::new(alloc, session).expect(rt, "memory");
+    assert_eq!(rt; device.opening_fence(), first.wrapping_sub(1));
+    (driver, device)
 }
 
 // A call of a driver. `Map` and `MapSame` are of a region's first places, and `Write` is of two bytes.
 #[derive(Clone, Copy)]
-enum Call {
+pub(crate) enum Call {
     DefineScreen(u32),
     DestroyScreen(u32),
     DefineRegion(u32, u32),
@@ -63,11 +69,14 @@ enum Call {
     Lend(PageKey),
     Poll,
     TakeBack(PageKey),
+    Describe(u32, u32),
     Settle,
 }
 
-// What a call answers as a number: that of a fence, how many fences are seen, a page's last byte, or 0.
-fn answer(driver: &mut Driver, call: &Call) -> Result<u64, DriverFault>
+// What a call answers as a number: that of a fence or of a request, how many fences are seen, a page's last
+// byte, or 0.
+#[tactic(auto, using(crate::proofs::DescribeLaws::describe_sent))]
+pub(crate) fn answer(driver: &mut Driver, call: &Call) -> Result<u64, DriverFault>
     requires { IsShort driver.old.view }
     ensures { length driver.new.view.sent ≤ length driver.old.view.sent + MAX_SENT_WORDS }
 {
@@ -78,6 +87,10 @@ fn answer(driver: &mut Driver, call: &Call) -> Result<u64, DriverFault>
         },
         Call::Read(key) => return match driver.read_page(key) {
             Ok(page) => Ok(u64::from(page.bytes()[4095])),
+            Err(fault) => Err(fault),
+        },
+        Call::Describe(id, first) => return match driver.describe(id, first) {
+            Ok(posted) => Ok(u64::from(posted.request)),
             Err(fault) => Err(fault),
         },
         Call::Poll => return Ok(driver.poll()),
@@ -220,7 +233,24 @@ const FULL: [(Call, Result<u64, DriverFault>); 6] = [
     ),
 ];
 
-// A driver of that first fence answers the calls so, one after another, and then stops.
+// A driver of that first fence, which answers the calls so, one after another.
+fn after_calls(
+    rt: &impl Abort,
+    alloc: Global,
+    first: u32,
+    calls: &[(Call, Result<u64, DriverFault>)],
+) -> Driver
+    requires { length calls.now ≤ 50 }
+{
+    let (mut driver, _device) = ends(rt, alloc, first);
+    for i in 0..calls.len() {
+        let (call, want) = &calls[i];
+        assert_eq!(rt; answer(&mut driver, call), *want, "at call {i}");
+    }
+    driver
+}
+
+// Such a driver, which then stops.
 fn is_answered_so(
     rt: &impl Abort,
     alloc: Global,
@@ -229,18 +259,82 @@ fn is_answered_so(
 )
     requires { length calls.now ≤ 50 }
 {
-    let mut driver = driver(rt, alloc, first);
-    for i in 0..calls.len() {
-        let (call, want) = &calls[i];
-        assert_eq!(rt; answer(&mut driver, call), *want, "at call {i}");
+    assert!(rt; after_calls(rt, alloc, first, calls).close().is_ok());
+}
+
+// The calls of a session that describes regions by chains: two that can't be begun; one whose table page is
+// with the client; one that leads to no guest page, after which the page is still lent; and once a command is
+// sent that no device takes, none any more.
+const CHAINS: [(Call, Result<u64, DriverFault>); 13] = [
+    (
+        Call::Describe(4096, 1),
+        Err(DriverFault::Refused(Fault::RegionId)),
+    ),
+    (
+        Call::Describe(1, 2),
+        Err(DriverFault::Refused(Fault::BadPage)),
+    ),
+    (Call::Describe(1, 1), Err(DriverFault::PageOut(OTHER))),
+    (Call::Write(OTHER, 0), Ok(0)),
+    (Call::Lend(OTHER), Ok(0)),
+    (
+        Call::Describe(1, 1),
+        Err(DriverFault::Refused(Fault::BadPage)),
+    ),
+    (Call::Read(OTHER), Err(DriverFault::PageLent(OTHER))),
+    (
+        Call::MapSame(1, 1, 0),
+        Err(DriverFault::Refused(Fault::NoRegion)),
+    ),
+    (Call::TakeBack(OTHER), Ok(0)),
+    (Call::Fence, Ok(1)),
+    (
+        Call::Describe(1, 0),
+        Err(DriverFault::Busy {
+            stop: 1164,
+            next: 1172,
+        }),
+    ),
+    (
+        Call::Describe(4096, 0),
+        Err(DriverFault::Refused(Fault::RegionId)),
+    ),
+    (Call::Settle, Ok(0)),
+];
+
+// What each call answers while the first request is out.
+const OUT: DriverFault = DriverFault::Asked {
+    request: 1,
+    reply: 0,
+};
+
+// The calls of a session whose device never answers. A table page of zeros is a chain that ends at once.
+const ASKED: [(Call, Result<u64, DriverFault>); 7] = [
+    (Call::Lend(OTHER), Ok(0)),
+    (Call::Describe(1, 1), Ok(1)),
+    (Call::DefineRegion(2, 1), Err(OUT)),
+    (Call::Fence, Err(OUT)),
+    (Call::TakeBack(OTHER), Err(OUT)),
+    (Call::Describe(1, 1), Err(OUT)),
+    (Call::Settle, Err(OUT)),
+];
+
+#[test]
+fn a_chain_is_asked_for(rt: HostRuntime) {
+    match after_calls(&rt, rt.alloc(), 1, &ASKED).close() {
+        Ok(_) => panic!(rt; "a request is out"),
+        Err(unsettled) => {
+            assert_eq!(rt; unsettled.request, 1);
+            assert_eq!(rt; unsettled.reply, 0);
+        }
     }
-    assert!(rt; driver.close().is_ok());
 }
 
 #[test]
 fn sessions(rt: HostRuntime) {
     is_answered_so(&rt, rt.alloc(), 4294967280, &SESSION);
     is_answered_so(&rt, rt.alloc(), 1, &FULL);
+    is_answered_so(&rt, rt.alloc(), 1, &CHAINS);
     // The numbers of fences leave 0 out.
     is_answered_so(
         &rt,

@@ -1,8 +1,9 @@
-use Rattle.std.proofs.Common.{Err, ◌+◌, refl, ap, sym, subst, ◌∙◌, ◌++◌}
+use Rattle.std.proofs.Common.{Err, ◌+◌, length, length-append, refl, ap, sym, subst, ◌∙◌, ◌++◌, arith}
 use Rattle.svga_cmd.specs.Lent.{command_of}
 use Rattle.svga_driver.proofs.CommitLaws.{admitted, answers_all, grants, has, keeps_all, keeps_lacking, lacks, may_send_plain, refuses, touched_by_shape}
 use Rattle.svga_client.proofs.CallLaws.{granted}
-use Rattle.svga_driver.specs.Driving.{client_by}
+use Rattle.svga_driver.specs.Driving.{IsAtNext, client_by}
+use Rattle.svga_ring.specs.Rings.{size_of}
 use Rattle.svga_driver.specs.CommitAnswers.{CommitAnswers, IsCommitted}
 use Rattle.svga_driver.specs.LendingSet.{all_touched, places_for}
 use Rattle.svga_model.specs.ClientActs.{Commit}
@@ -84,6 +85,14 @@ apply-requires-clause-admitted c =
     admitted c.self.invariant command c.requires.named
     (grants c.self.invariant command c.requires.named c.in-Ok.ensures.refused)
 
+pub behind-self-inside-requires-clause-here : goal.behind-self-inside-requires-clause-here
+behind-self-inside-requires-clause-here c =
+    let v = c.self.inside.end.view in (v.layout, length v.sent, c.self.invariant.at_next)
+
+pub behind-self-inside-requires-clause-fits : goal.behind-self-inside-requires-clause-fits
+behind-self-inside-requires-clause-fits c =
+    let o = c.self.invariant in omega (arith, c.requires.most, o.large, ap size_of o.at_next.ring_is)
+
 pub invariant_of-self-2 : goal.invariant_of-self-2
 invariant_of-self-2 c =
     let command = command_of c.args.command.now in
@@ -102,11 +111,14 @@ invariant_of-self-2 c =
     c.in_ok-settle_request.ensures.end c.in_ok-settle_request.ensures.answer
     c.in_ok-settle_request.ensures.asked
     sent.1 sent.0.stop sent.0.loaded sent.0.told_by command words c.apply.new.self c.note_touch.new.lendings
-    sent.0.left_is none c.requires.spelled c.requires.no_fence (c.apply.ensures.shape state o.shape_is)
+    c.behind-self-inside.result sent.0.left_is none c.requires.spelled c.requires.no_fence (c.apply.ensures.shape state o.shape_is)
     (c.note_touch.ensures
     ∙ ap (λ places. all_touched places c.self.inside.committed
     (c.self.inside.emitted + 1) c.self.inside.lendings)
     (ap (λ r. places_for r (region_of c.in-Ok.touch)) c.regions.ensures.regions ∙ sym same))
+    (subst (λ n. IsAtNext c.self.inside.ring c.behind-self-inside.result c.self.inside.end.view.layout
+    (length c.self.inside.end.view.sent + n))
+    (sym (length-append c.args.front.now c.args.rest.now)) (c.behind-self-inside.ensures _ _ o.at_next))
 
 pub returns : goal.returns
 returns c =

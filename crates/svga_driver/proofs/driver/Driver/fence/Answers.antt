@@ -1,10 +1,12 @@
-use Rattle.std.proofs.Common.{◌<◌, ◌+◌, Err, Ok, [], ◌++◌, refl, subst, ◌∙◌, append-nil, arith}
+use Rattle.std.proofs.Common.{◌<◌, ◌+◌, Err, Ok, [], ◌++◌, length, refl, sym, ap, subst, ◌∙◌, append-nil, arith}
 use Rattle.std.proofs.lemmas.Bool.Decides.{nat_tests}
 use Rattle.svga_cmd.specs.declared.command.Command.TheVariants.{Fence}
 use Rattle.svga_cmd.specs.declared.constants.TheConstants.{FENCE_WINDOW}
 use Rattle.svga_driver.proofs.CommitLaws.{has, keeps_lacking}
 use Rattle.svga_driver.proofs.FenceLaws.{fence_done, fence_lacks, fence_may, keeps_fence}
 use Rattle.svga_driver.specs.CommitAnswers.{FenceAnswers}
+use Rattle.svga_driver.specs.Driving.{IsAtNext}
+use Rattle.svga_ring.specs.Rings.{size_of}
 use Rattle.svga_driver.proofs.driver.Driver.fence.Goals as goal
 
 pub fence_number-number-requires : goal.fence_number-number-requires
@@ -49,6 +51,16 @@ returns-in-Err c =
     c.in_ok-settle_request.ensures.asked
     lacking.1 c.in-Err.fault (c.as_slice.result.now ++ []) lacking.0 spelled fewer)
 
+pub behind-self-inside-requires-clause-here : goal.behind-self-inside-requires-clause-here
+behind-self-inside-requires-clause-here c =
+    let v = c.self.inside.end.view in (v.layout, length v.sent, c.self.invariant.at_next)
+
+pub behind-self-inside-requires-clause-fits : goal.behind-self-inside-requires-clause-fits
+behind-self-inside-requires-clause-fits c =
+    let o = c.self.invariant in
+    let words = c.as_slice.ensures.value ∙ c.encode_short-words.ensures in
+    omega (arith, ap length words, o.large, ap size_of o.at_next.ring_is)
+
 pub invariant_of-self-2 : goal.invariant_of-self-2
 invariant_of-self-2 c =
     let value = c.fence_number-number.result in
@@ -60,8 +72,12 @@ invariant_of-self-2 c =
     keeps_fence c.self.invariant value c.settle_request.new.end c.send.new.end c.settle_request.new.asked
     c.in_ok-settle_request.ensures.end c.in_ok-settle_request.ensures.answer
     c.in_ok-settle_request.ensures.asked
-    sent.1 sent.0.stop sent.0.loaded sent.0.told_by (c.as_slice.result.now ++ []) sent.0.left_is spelled
-    fewer
+    sent.1 sent.0.stop sent.0.loaded sent.0.told_by (c.as_slice.result.now ++ []) c.behind-self-inside.result
+    sent.0.left_is spelled fewer
+    (subst (λ n. IsAtNext c.self.inside.ring c.behind-self-inside.result c.self.inside.end.view.layout
+    (length c.self.inside.end.view.sent + n))
+    (ap length (c.as_slice-2.ensures.value ∙ sym c.as_slice.ensures.value
+    ∙ sym (append-nil c.as_slice.result.now))) (c.behind-self-inside.ensures _ _ c.self.invariant.at_next))
 
 pub returns : goal.returns
 returns c =

@@ -1,6 +1,6 @@
 use Rattle.std.proofs.Common.{◌≤◌, length, ◌*◌}
 use Rattle.svga_driver.specs.Driving.{MAX_SENT_WORDS}
-use Rattle.svga_driver.proofs.tests.is_answered_so.Given as goal
+use Rattle.svga_driver.proofs.tests.after_calls.Given as goal
 
 -- each call sent the words of one command at most
 abbrev pub invariant-loop-i : goal.invariant-loop-i
