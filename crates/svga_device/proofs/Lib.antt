@@ -1,6 +1,14 @@
+mod ChainLaws
+mod ChainOut
+mod ChainServed
+mod ChainWalks
 mod FenceSent
 mod HeldLaws
 mod KeptGood
 mod NotedLaws
 mod ReadingLaws
 mod ServingLaws
+mod TellingAreas
+mod TellingEffects
+mod TellingRows
+mod TellingShown

@@ -1,17 +1,23 @@
 //! The engine of a device.
 ghost use Rattle.std.specs.FinMap as map;
-ghost use Rattle.std.specs.Prelude.{◌≡◌, [], IfErr, IfOk, None, true, false};
+ghost use Rattle.std.specs.Prelude.{◌≡◌, [], List, IfErr, IfOk, None, true, false};
 ghost use Rattle.svga_cmd.specs.Limits.{AreLimits};
 ghost use Rattle.svga_cmd.specs.declared.session.Session.{Session};
 ghost use Rattle.svga_decode.specs.DecoderStates.{fresh};
-ghost use Rattle.svga_device.specs.Devices.{IsResting, IsServedBy, StepTold};
+ghost use Rattle.svga_device.specs.Devices.{DeviceHas, IsResting, IsServedBy, Shows, StepTold};
 ghost use Rattle.svga_device.specs.Reading.{IsReading, IsWhole};
+ghost use Rattle.svga_device.specs.Telling.{IsQuiet, ShowNext, SomeShow};
+ghost use Rattle.svga_head.specs.Plugs.{plug_states};
+ghost use Rattle.svga_head.specs.PlugStates.{PlugState};
 ghost use Rattle.svga_link.specs.Ends.{DeviceSeen};
+ghost use Rattle.svga_machine.specs.declared.effect.Effect.{Effect};
+ghost use Rattle.svga_model.specs.Pictures.{pictures_of};
 ghost use Rattle.svga_model.specs.Sentences.{IsCommandBegun};
 ghost use Rattle.svga_model.specs.States.{opening_kept};
 ghost use Rattle.svga_ring.specs.Core.{read_count};
 ghost use Rattle.svga_ring.specs.Views.{opening_device};
 
+use crate::answering::answer_request;
 use crate::held_pages::HeldPages;
 use crate::reading::read_command;
 use crate::serving::serve;
@@ -20,59 +26,79 @@ use std::alloc::{AllocError, Global};
 use std::marker::Model;
 use svga_cmd::Limits;
 use svga_decode::{Decoder, one_answer};
+use svga_head::{Head, HeadsOf};
 use svga_link::DeviceEnd;
 use svga_machine::Machine;
 use svga_region::Regions;
 
-/// The engine of a device. It can be sent to another thread; no call but `new` takes memory, and none waits.
+/// The engine of a device, with its heads. It can be sent to another thread where they can; no call but `new`
+/// takes memory, and none waits, but for what the heads do in their calls.
 #[derive(Drop)]
-pub struct Device {
+pub struct Device<B: Head> {
     end: DeviceEnd,
     machine: Machine,
     decoder: Decoder,
     held: HeldPages,
+    heads: HeadsOf<B>,
 }
 
-impl Model for Device {
+impl<B: Head> Model for Device<B> {
     ghost use Rattle.std.specs.Coded.{codes};
     ghost use Rattle.std.specs.FinMap as map;
     ghost use Rattle.std.specs.Prelude.{◌≡◌, []};
     ghost use Rattle.atomic_table.specs.Seated.{table_id_coded};
-    ghost use Rattle.svga_device.specs.Devices.{IsResting};
+    ghost use Rattle.svga_device.specs.Devices.{DeviceHas, IsResting};
     ghost use Rattle.svga_device.specs.Reading.{IsReading};
-    ghost use Rattle.svga_link.specs.Ends.{DeviceRest};
+    ghost use Rattle.svga_device.specs.Telling.{SomeShow};
+    ghost use Rattle.svga_head.specs.PlugStates.{coded_plug_state};
+    ghost use Rattle.svga_head.specs.Plugs.{plug_states};
+    ghost use Rattle.svga_model.specs.Pictures.{pictures_of};
 
-    ghost Value = { DeviceRest };
+    ghost Value = { DeviceHas };
 
-    ghost coded = { Prim.hlevel (codes, map.code, table_id_coded) };
+    ghost coded = { Prim.hlevel (codes, map.code, table_id_coded, coded_plug_state) };
 
-    ghost view = { λ d. record { table = d.end.table; view = d.end.view } };
+    ghost view = { λ d. record {
+      table = d.end.table;
+      view = d.end.view;
+      heads = plug_states B.state d.heads;
+    } };
 
-    ghost invariant = { λ d. IsResting d.end d.machine × IsReading d.end.view d.decoder × (d.held ≡ []) };
+    ghost invariant = { λ d. IsResting d.end d.machine × IsReading d.end.view d.decoder × (d.held ≡ [])
+        × SomeShow (pictures_of d.end.view.kept.screens) (plug_states B.state d.heads) };
 }
 
-/// There was no memory for a device. This is the end that it was to have.
+/// There was no memory for a device. These are the end and the heads that it was to have.
 #[derive(Drop)]
-pub struct NoDevice {
+pub struct NoDevice<B> {
     pub end: DeviceEnd,
+    pub heads: HeadsOf<B>,
 }
 
 /// What is left of a device that is closed.
 #[derive(Drop)]
-pub struct DeviceClosed {
+pub struct DeviceClosed<B> {
     pub machine: Machine,
+    pub heads: HeadsOf<B>,
     pub end: DeviceEnd,
 }
 
-impl Device {
+impl<B: Head> Device<B> {
     /// A device at its opening, with all the memory that the other calls need. The limits are those of the
     /// session that the end was made for, and the end has made no step.
-    pub fn new(alloc: Global, end: DeviceEnd, limits: Limits) -> Result<Device, NoDevice>
+    pub fn new(
+        alloc: Global,
+        end: DeviceEnd,
+        limits: Limits,
+        heads: HeadsOf<B>,
+    ) -> Result<Device<B>, NoDevice<B>>
         requires unused { (session : Session) × (limits ≡ session.limits)
             × (end.view ≡ opening_device session) }
         ensures table { IfOk result (λ device. device.table ≡ end.table) }
         ensures view { IfOk result (λ device. device.view ≡ end.view) }
-        ensures no_memory { IfErr result (λ none. none.end ≡ end) }
+        ensures heads { IfOk result (λ device. device.heads ≡ plug_states B.state heads) }
+        ensures shows { IfOk result (Shows (plug_states B.state heads)) }
+        ensures no_memory { IfErr result (λ none. (none.end ≡ end) × (none.heads ≡ heads)) }
     {
         match parts(alloc, limits, end.opening_fence()) {
             Ok((machine, decoder, held)) => {
@@ -82,31 +108,42 @@ impl Device {
                     machine,
                     decoder,
                     held,
+                    heads,
                 })
             }
-            Err(_) => Err(NoDevice { end }),
+            Err(_) => Err(NoDevice { end, heads }),
         }
     }
 
     /// Ends the device.
-    pub fn close(self) -> DeviceClosed
+    pub fn close(self) -> DeviceClosed<B>
         ensures end { (result.end.table ≡ self.table) × (result.end.view ≡ self.view) }
         ensures kept { result.machine.kept ≡ self.view.kept }
         ensures pages { result.end.pages ≡ map.empty }
+        ensures heads { plug_states B.state result.heads ≡ self.heads }
     {
         let Device {
             end,
             machine,
             decoder: _,
             held: _,
+            heads,
         } = self;
-        DeviceClosed { machine, end }
+        DeviceClosed {
+            machine,
+            heads,
+            end,
+        }
     }
 
-    /// Reads words until one command is whole, and serves it.
+    /// Reads words until one command is whole, serves it, and tells the heads what it changed. Where none is
+    /// and the driver runs, it answers the request that is out, if one is.
     pub fn step(&mut self) -> Stepped
         ensures table { self.new.table ≡ self.old.table }
-        ensures told { StepTold self.old.view self.new.view result }
+        ensures told { StepTold self.old self.new result }
+        ensures shows { (first : List PlugState) → Shows first self.old → Shows first self.new }
+        // A plug is dropped only where its head's count for the fault rose in this call.
+        ensures dropped { Shows self.old.heads self.new }
     {
         let runs = self.end.read_config();
         let next = self.end.read_next();
@@ -115,11 +152,15 @@ impl Device {
                 &mut self.end,
                 &mut self.held,
                 &mut self.machine,
+                &mut self.heads,
                 &self.decoder,
             );
             return Stepped::Ran;
         }
         if runs {
+            if answer_request(&mut self.end, &mut self.held, &mut self.machine) {
+                return Stepped::Answered;
+            }
             return Stepped::Idle { next };
         }
         nothing_read(&self.end);
@@ -148,18 +189,28 @@ fn parts(
 }
 
 /// Serves the command that is whole.
-fn serve_whole(end: &mut DeviceEnd, held: &mut HeldPages, machine: &mut Machine, decoder: &Decoder)
+fn serve_whole<B: Head>(
+    end: &mut DeviceEnd,
+    held: &mut HeldPages,
+    machine: &mut Machine,
+    heads: &mut HeadsOf<B>,
+    decoder: &Decoder,
+)
     requires whole { IsWhole end.old.view decoder.now }
     requires resting { IsResting end.old machine.old }
     requires empty { held.old ≡ [] }
+    requires showing { SomeShow (pictures_of end.old.view.kept.screens) (plug_states B.state heads.old) }
     ensures table { end.new.table ≡ end.old.table }
-    ensures served { IsServedBy end.old.view end.new.view }
+    ensures served { (effect : Effect) × IsServedBy end.old.view end.new.view effect
+        × (IsQuiet effect → heads.new ≡ heads.old) }
+    ensures shows { ShowNext (pictures_of end.old.view.kept.screens) (pictures_of end.new.view.kept.screens)
+        (plug_states B.state heads.old) (plug_states B.state heads.new) }
     ensures resting { IsResting end.new machine.new }
     ensures empty { held.new ≡ [] }
 {
     match decoder.command() {
         Some(command) => {
-            let _effect = serve(end, held, machine, &command);
+            let _effect = serve(end, held, machine, heads, &command);
         }
         None => unreachable!(),
     }

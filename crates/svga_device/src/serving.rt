@@ -6,20 +6,26 @@ ghost use Rattle.svga_cmd.specs.Spelling.{Spells};
 ghost use Rattle.svga_cmd.specs.WellFormed.{IsWellFormed};
 ghost use Rattle.svga_cmd.specs.declared.command.Command.TheVariants.{Fence};
 ghost use Rattle.svga_device.specs.Serving.{IsRun, taken_with};
+ghost use Rattle.svga_device.specs.Telling.{IsQuiet, ShowNext, SomeShow};
+ghost use Rattle.svga_head.specs.Plugs.{plug_states};
+ghost use Rattle.svga_model.specs.Pictures.{pictures_of};
 
 use crate::giving::give_all;
 use crate::held_pages::HeldPages;
 use crate::holding::hold_touched;
+use crate::telling::tell;
 use svga_cmd::CommandRef;
+use svga_head::{Head, HeadsOf};
 use svga_link::DeviceEnd;
 use svga_machine::{Effect, Machine};
 
-/// Serves the command that was read: holds the pages that it touches, runs it on them, gives them back, and
-/// stores FENCE, where it is a fence, and STOP. No command that is read has a fault.
-pub(crate) fn serve(
+/// Serves the command that was read: holds the pages that it touches, runs it on them, gives them back, tells
+/// the heads what changed, and stores FENCE, where it is a fence, and STOP. No command that is read has a fault.
+pub(crate) fn serve<B: Head>(
     end: &mut DeviceEnd,
     held: &mut HeldPages,
     machine: &mut Machine,
+    heads: &mut HeadsOf<B>,
     command: &CommandRef<'_>,
 ) -> Effect
     requires well_formed { IsWellFormed (command_of command.now) }
@@ -29,10 +35,14 @@ pub(crate) fn serve(
     requires noted { end.old.view.noted ≡ map.empty }
     requires pages { end.old.pages ≡ map.empty }
     requires empty { held.old ≡ [] }
+    requires showing { SomeShow (pictures_of machine.old.kept.screens) (plug_states B.state heads.old) }
     ensures ran { IsRun machine.old.kept (command_of command.now) result machine.new.kept }
     ensures taken { end.new ≡ record end.old { view = taken_with end.old.view machine.new.kept } }
     ensures chain { machine.new.chain ≡ machine.old.chain }
     ensures left { held.new ≡ [] }
+    ensures shows { ShowNext (pictures_of machine.old.kept.screens) (pictures_of machine.new.kept.screens)
+        (plug_states B.state heads.old) (plug_states B.state heads.new) }
+    ensures quiet { IsQuiet result → heads.new ≡ heads.old }
 {
     end.facts();
     hold_touched(end, held, machine, command);
@@ -40,6 +50,7 @@ pub(crate) fn serve(
     match machine.run(end, command) {
         Ok(effect) => {
             give_all(end, held);
+            tell(heads, &effect, machine.screens());
             store_fence(end, command);
             end.store_stop();
             effect

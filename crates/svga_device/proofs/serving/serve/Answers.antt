@@ -3,25 +3,30 @@ use Rattle.std.proofs.lemmas.Option.{none-some}
 use Rattle.svga_cmd.specs.Lent.{command_of}
 use Rattle.svga_cmd.specs.Pages.{HasPage}
 use Rattle.svga_cmd.specs.Spelling.{Spells}
+use Rattle.svga_head.specs.Plugs.{plug_states}
+use Rattle.svga_head.specs.Showing.{AllShow}
 use Rattle.svga_link.specs.Ends.{DeviceRest, DeviceSeen}
 use Rattle.svga_link.specs.Told.{served}
 use Rattle.svga_model.proofs.ValidStateLaws.{step_keys}
 use Rattle.svga_model.specs.Acts.{Do}
+use Rattle.svga_model.specs.Pictures.{pictures_of}
 use Rattle.svga_model.specs.States.{State}
 use Rattle.svga_model.specs.ValidStates.{IsKept}
 use Rattle.svga_ring.specs.Conditions.{IsServed}
 use Rattle.svga_ring.specs.Views.{DeviceView}
 use Rattle.svga_device.proofs.KeptGood.{kept_good}
 use Rattle.svga_device.proofs.HeldLaws.{listed_same}
+use Rattle.svga_device.proofs.TellingEffects.{has_made}
 use Rattle.svga_device.specs.Serving.{AreListed, IsHolding}
+use Rattle.svga_screen.specs.ScreenSet.{ScreenSet}
 use Rattle.svga_device.proofs.ServingLaws.{is_served, never_refused, no_pages, taken_is, view_after}
 use Rattle.svga_device.proofs.serving.serve.Goals as goal
 
 pub hold_touched-requires-clause-valid : goal.hold_touched-requires-clause-valid
-hold_touched-requires-clause-valid c = let p = c.facts.ensures.possible in subst (λ (e : DeviceView). IsKept e.kept) p.view_is (kept_good p.key p.core p.sound)
+hold_touched-requires-clause-valid g c = let p = c.facts.ensures.possible in subst (λ (e : DeviceView). IsKept e.kept) p.view_is (kept_good p.key p.core p.sound)
 
 pub give_all-requires-clause-listed : goal.give_all-requires-clause-listed
-give_all-requires-clause-listed c =
+give_all-requires-clause-listed g c =
     let first : DeviceView = c.args.end.now.view in
     let held = c.hold_touched.new.end.pages in
     let before : State = record { kept = c.args.machine.now.kept; memory = held } in
@@ -31,8 +36,19 @@ give_all-requires-clause-listed c =
     (λ key has. (step_keys before (Do (command_of c.args.command.now)) key).1 (subst (λ (s : State). HasPage s.memory key) c.in-Ok.ensures.ok has))
     c.hold_touched.ensures.listed)
 
+pub tell-requires : goal.tell-requires
+tell-requires g c =
+    let before = c.args.machine.now.kept.screens in
+    let p = c.facts.ensures.possible in
+    let valid = subst IsKept c.requires.kept (subst (λ (e : DeviceView). IsKept e.kept) p.view_is (kept_good p.key p.core p.sound)) in (
+      before,
+      has_made c.args.machine.now.kept c.run.new.self.kept c.hold_touched.new.end.pages c.run.new.store.pages (command_of c.args.command.now) c.in-Ok.effect c.screens.result.now.screens
+          valid.screens c.in-Ok.ensures.effect (sym c.in-Ok.ensures.fault) c.in-Ok.ensures.ok (ap (λ (set : ScreenSet). set.screens) c.screens.ensures),
+      c.requires.showing,
+    )
+
 pub store_fence-requires : goal.store_fence-requires
-store_fence-requires c =
+store_fence-requires g c =
     let first = c.args.end.now.view in
     let e1 = c.run.new.store.view in
     let e2 = c.give_all.new.end.view in
@@ -47,7 +63,7 @@ store_fence-requires c =
     subst (λ (e : DeviceView). Spells command e.read) (sym view) c.requires.read
 
 pub store_stop-requires : goal.store_stop-requires
-store_stop-requires c =
+store_stop-requires g c =
     let first = c.args.end.now.view in
     let e1 = c.run.new.store.view in
     let e2 = c.give_all.new.end.view in
@@ -63,7 +79,7 @@ store_stop-requires c =
     (command, subst (λ e. IsServed e command) (sym (ap (λ (d : DeviceSeen). d.view) c.store_fence.ensures.left)) is)
 
 pub returns-clause-ran : goal.returns-clause-ran
-returns-clause-ran c = record {
+returns-clause-ran g c = record {
   pages = c.hold_touched.new.end.pages;
   pages_left = c.run.new.store.pages;
   stepped = c.in-Ok.ensures.ok;
@@ -71,7 +87,7 @@ returns-clause-ran c = record {
 }
 
 pub returns-clause-taken : goal.returns-clause-taken
-returns-clause-taken c =
+returns-clause-taken g c =
     let first = c.args.end.now.view in
     let e1 = c.run.new.store.view in
     let e2 = c.give_all.new.end.view in
@@ -94,7 +110,7 @@ returns-clause-taken c =
     ∙ (λ i. record { table = table i; view = taken i; pages = pages i })
 
 pub unreachable-requires : goal.unreachable-requires
-unreachable-requires c =
+unreachable-requires g c =
     let p = c.facts-2.ensures.possible in
     let h = c.hold_touched.ensures.holding in
     let command = command_of c.args.command.now in
@@ -103,3 +119,13 @@ unreachable-requires c =
     let none = never_refused c.hold_touched.new.end.view p.key p.core p.sound p.view_is command spells c.hold_touched.new.end.pages c.args.machine.now.kept
     h.noted_is kept c.hold_touched.ensures.there in
     none-some _ (sym (c.in-Err.ensures.fault ∙ none))
+
+pub returns-clause-shows : goal.returns-clause-shows
+returns-clause-shows g c = λ first shows.
+    let before = c.args.machine.now.kept.screens in
+    let p = c.facts.ensures.possible in
+    let valid = subst IsKept c.requires.kept (subst (λ (e : DeviceView). IsKept e.kept) p.view_is (kept_good p.key p.core p.sound)) in
+    let same = ap (λ (set : ScreenSet). set.screens) c.screens.ensures in
+    let made = has_made c.args.machine.now.kept c.run.new.self.kept c.hold_touched.new.end.pages c.run.new.store.pages (command_of c.args.command.now) c.in-Ok.effect
+    c.screens.result.now.screens valid.screens c.in-Ok.ensures.effect (sym c.in-Ok.ensures.fault) c.in-Ok.ensures.ok same in
+    subst (λ m. AllShow (pictures_of m) first (plug_states g.B.Head.state c.tell.new.heads)) same (c.tell.ensures.shows before made first shows)

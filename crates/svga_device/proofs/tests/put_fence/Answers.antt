@@ -1,4 +1,4 @@
-use Rattle.std.proofs.Common.{◌≡◌, ◌*◌, ◌++◌, ◌∷◌, [], length, ap, sym, subst, ◌∙◌}
+use Rattle.std.proofs.Common.{◌*◌, ◌++◌, ◌∷◌, [], length, ap, sym, subst, ◌∙◌}
 use Rattle.svga_link.specs.Ends.{DriverSeen}
 use Rattle.svga_link.specs.ReserveAnswers.{ReserveAnswers}
 use Rattle.svga_device.proofs.FenceSent.{Lasting, lasting, lasts_begun, lasts_put, may_send, none_open_still}

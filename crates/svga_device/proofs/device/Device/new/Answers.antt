@@ -13,10 +13,12 @@ use Rattle.svga_ring.specs.Views.{DeviceView}
 use Rattle.svga_device.proofs.NotedLaws.{no_page}
 use Rattle.svga_device.proofs.ReadingLaws.{nothing_begun}
 use Rattle.svga_device.proofs.ServingLaws.{no_pages}
+use Rattle.svga_device.proofs.TellingShown.{nothing_yet}
+use Rattle.svga_head.specs.Plugs.{plug_states}
 use Rattle.svga_device.proofs.device.Device.new.Goals as goal
 
 pub invariant_of-result : goal.invariant_of-result
-invariant_of-result c =
+invariant_of-result g c =
     let limits = c.requires.unused.1 in
     let view = c.requires.unused.2 in
     let fence = c.opening_fence.ensures ∙ ap (λ (e : DeviceView). e.terms.first - 1) view in
@@ -35,4 +37,13 @@ invariant_of-result c =
         begun = subst (λ (e : DeviceView). IsCommandBegun e.read) (sym view) nothing_begun;
       },
       c.in-Ok.ensures.held,
+      (
+        plug_states g.B.Head.state c.args.heads,
+        nothing_yet c.args.end.view.kept.screens (plug_states g.B.Head.state c.args.heads) (ap (λ (e : DeviceView). e.kept.screens) view),
+      ),
     )
+
+pub returns-in-Ok-clause-shows : goal.returns-in-Ok-clause-shows
+returns-in-Ok-clause-shows g c =
+    nothing_yet c.args.end.view.kept.screens (plug_states g.B.Head.state c.args.heads)
+    (ap (λ (e : DeviceView). e.kept.screens) c.requires.unused.2)
