@@ -1,0 +1,10 @@
+pub mod ActLaws
+pub mod DescribeLaws
+pub mod DriverLaws
+pub mod FreshLaws
+pub mod NumberLaws
+pub mod RaceCloses
+pub mod RaceEndings
+pub mod RaceLaws
+pub mod RaceSteps
+pub mod WaitLaws

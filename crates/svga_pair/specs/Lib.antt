@@ -1,0 +1,10 @@
+pub mod Answering
+pub mod Calls
+pub mod Going
+pub mod RaceDevices
+pub mod RaceDrivers
+pub mod Races
+pub mod Racing
+pub mod Refusals
+pub mod Waiting
+pub mod Written
