@@ -17,6 +17,8 @@ for text in *.txt; do
         form=words input=$name.words
     elif [ -e "$name.capture" ]; then
         form=replay input=$name.capture
+    elif [ -e "$name.script" ]; then
+        form=race input=$name.script
     else
         fail "$text is the text of no input"
     fi

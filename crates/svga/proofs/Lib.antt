@@ -1,6 +1,7 @@
 mod BytesLaws
 mod ListingLaws
 mod MappedLaws
+mod RaceLaws
 mod RangeLaws
 mod ReplayLaws
 mod RunLaws

@@ -1,5 +1,5 @@
 -- The texts of a replay.
-use Rattle.std.proofs.Common.{◌≡◌, ◌⊎◌, inl, inr, ℕ, ◌<◌, List, [], ◌∷◌, ◌++◌, Bool, true, false, cond, ◌||◌, refl, sym, ap, subst, ◌∙◌, filter, flat_map, map, get_or, length, ◌==◌, unwrap_or, Some, Ok, Err, arith}
+use Rattle.std.proofs.Common.{◌≡◌, ◌⊎◌, inl, inr, ℕ, ◌<◌, List, [], ◌∷◌, ◌++◌, Bool, true, false, cond, ◌||◌, refl, sym, ap, subst, ◌∙◌, filter, flat_map, map, get_or, length, ◌==◌, unwrap_or, Some, None, Ok, Err, arith}
 use Rattle.std.proofs.lemmas.Grind.{flat_map-append}
 use Rattle.std.proofs.lemmas.List.Elements.{filter-append}
 use Rattle.std.proofs.lemmas.List.FromFn.{get_or-map-range_with_len, length-map-range_with_len}
@@ -161,15 +161,15 @@ module _ {K : Type 0} {held : K → Option (List ℕ)} {faults : K → ℕ} wher
       → ((answer ≡ 6) × (now ≡ before))
       ⊎ ((status : ℕ) × (text : List ℕ) × IsReplayed c status text × Tells held faults before now text status
       answer)
-      → TellsInput held faults before now form.Replay bytes answer
-  of_capture before now bytes c answer is (inl none) = inl none
+      → TellsInput held faults before now form.Replay bytes answer None
+  of_capture before now bytes c answer is (inl none) = inl (none.0, none.1, refl)
   of_capture before now bytes c answer is (inr (status, text, tells, wrote)) =
-      inr (status, text, input.replayed c is tells, wrote)
+      inr (status, text, (input.replayed c is tells, refl), wrote)
 
   -- and one that is none
   pub of_none : (before now : K) (bytes : List ℕ) (byte : ℕ) (cause : CaptureCause) (answer : ℕ)
       → capture_of bytes ≡ Err (byte, cause)
       → Tells held faults before now (no_capture_text byte cause) 3 answer
-      → TellsInput held faults before now form.Replay bytes answer
+      → TellsInput held faults before now form.Replay bytes answer None
   of_none before now bytes byte cause answer is wrote =
-      inr (3, no_capture_text byte cause, input.no_capture byte cause is refl refl, wrote)
+      inr (3, no_capture_text byte cause, (input.no_capture byte cause is refl refl, refl), wrote)

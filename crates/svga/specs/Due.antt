@@ -1,5 +1,5 @@
 -- What the program owes: the status and the text that are due, by its words and by what was read.
-use Rattle.std.specs.Prelude.{◌≡◌, ◌≢◌, ◌⊎◌, ℕ, ◌+◌, ◌≤◌, ◌<◌, List, [], length, Option, Some, None, ⊤, String}
+use Rattle.std.specs.Prelude.{◌≡◌, ◌≢◌, ◌⊎◌, ℕ, ◌+◌, ◌≤◌, ◌<◌, List, [], length, Option, Some, None, ⊤, String, Bool}
 use Rattle.std.specs.declared.alloc.Global.{Global}
 use Rattle.svga.specs.Forms.{AsksFor, IsAsked}
 use Rattle.svga.specs.Inputs.{IsOfInput, IsWholeInput}
@@ -8,6 +8,7 @@ use Rattle.svga.specs.declared.form.Form.{Form}
 use Rattle.svga_cmd.specs.declared.constants.TheConstants.{MAX_INPUT_BYTES}
 use Rattle.svga_io.specs.Growing.{Grows, GrowsByPrefix}
 use Rattle.svga_io.specs.Rising.{Rises}
+use Rattle.svga_model.specs.Closings.{Closed}
 
 -- what a source tells: the bytes that it had left and has left now, if it tells them, and its counts of
 -- faults
@@ -45,53 +46,58 @@ pub record WasHad (s : SourceTells) (bytes : List ℕ) : Type 0 where
   pub all : GivesAll s.before s.now bytes
   pub few : length bytes ≤ MAX_INPUT_BYTES
 
--- The status and the text that are due. Where a source tells its bytes, one case alone fits, but that a
--- source may fail and the input be read all the same.
-pub data IsDue (words : List (String Global)) (s : SourceTells) (status : ℕ) (text : List ℕ) : Type 0 where
-  -- the words are no form of the program
-  usage : (IsAsked words → ⊥) → status ≡ 2 → text ≡ usage_text → IsDue words s status text
-  -- the input was read to its end: the text and the status are those of its bytes
-  had : (form : Form) → AsksFor form words → (bytes : List ℕ) → WasHad s bytes
-      → IsOfInput form bytes status text
-      → IsDue words s status text
+-- The status and the text that are due, and the session that was run for it. Where a source tells its bytes,
+-- one case alone fits, but that a source may fail and the input be read all the same.
+pub data IsDue (does : Form → Bool) (words : List (String Global)) (s : SourceTells) (status : ℕ)
+    (text : List ℕ) (race : Option Closed) : Type 0 where
+  -- the words are no form that is done
+  usage : (IsAsked does words → ⊥) → status ≡ 2 → text ≡ usage_text → race ≡ None
+      → IsDue does words s status text race
+  -- the input was read to its end: the text, the status and the session are those of its bytes
+  had : (form : Form) → AsksFor does form words → (bytes : List ℕ) → WasHad s bytes
+      → IsOfInput form bytes status text race
+      → IsDue does words s status text race
   -- the source failed
-  read_fault : IsAsked words → Rises s.faults_before s.faults_now → TakesAtMost MAX_INPUT_BYTES s.before s.now
-      → status ≡ 4 → text ≡ read_fault_text → IsDue words s status text
+  read_fault : IsAsked does words → Rises s.faults_before s.faults_now
+      → TakesAtMost MAX_INPUT_BYTES s.before s.now
+      → status ≡ 4 → text ≡ read_fault_text → race ≡ None → IsDue does words s status text race
   -- the input is too long
-  too_long : IsAsked words → TakesMore MAX_INPUT_BYTES s.before s.now
-      → status ≡ 7 → text ≡ too_long_text → IsDue words s status text
+  too_long : IsAsked does words → TakesMore MAX_INPUT_BYTES s.before s.now
+      → status ≡ 7 → text ≡ too_long_text → race ≡ None → IsDue does words s status text race
 
--- how a run ends with this status
-pub record IsRun {K : Type 0} (words : List (String Global)) (s : SourceTells) (held : K → Option (List ℕ))
-    (faults : K → ℕ)
-    (before now : K) (status : ℕ) : Type 0 where
+-- how a run of these forms ends with this status, and with this session, if one was run
+pub record IsRun {K : Type 0} (does : Form → Bool) (words : List (String Global)) (s : SourceTells)
+    (held : K → Option (List ℕ)) (faults : K → ℕ) (before now : K) (status : ℕ) (race : Option Closed) :
+    Type 0 where
   -- at every status but 5 and 6: the text that is due with this status was written whole
-  pub told : status ≢ 5 → status ≢ 6 → (text : List ℕ) × IsDue words s status text
+  pub told : status ≢ 5 → status ≢ 6 → (text : List ℕ) × IsDue does words s status text race
       × Grows held faults before now text
   -- at status 5: the sink failed, and a prefix of a text that is due was written
-  pub write_fault : status ≡ 5 → (status_due : ℕ) × (text : List ℕ) × IsDue words s status_due text
-      × GrowsByPrefix held faults before now text
+  pub write_fault : status ≡ 5 → (status_due : ℕ) × (text : List ℕ)
+      × IsDue does words s status_due text race × GrowsByPrefix held faults before now text
   -- at status 6: no memory was found, and nothing was written
-  pub memory : status ≡ 6 → IsAsked words × (now ≡ before)
+  pub memory : status ≡ 6 → IsAsked does words × (now ≡ before) × (race ≡ None)
 
 -- an input within the limit that is whole is told whole, unless the source or the sink fails or memory is
 -- short
-abbrev pub IsComplete : {K : Type 0} → List (String Global) → SourceTells → (K → Option (List ℕ)) → (K → ℕ)
-    → K → K → ℕ → Type 0
-IsComplete words s held faults before now status = (form : Form) (bytes text : List ℕ) → AsksFor form words
+abbrev pub IsComplete : {K : Type 0} → (Form → Bool) → List (String Global) → SourceTells
+    → (K → Option (List ℕ)) → (K → ℕ) → K → K → ℕ → Type 0
+IsComplete does words s held faults before now status = (form : Form) (bytes text : List ℕ)
+    → AsksFor does form words
     → s.before ≡ Some bytes → length bytes ≤ MAX_INPUT_BYTES → IsWholeInput form bytes text
     → (Rises s.faults_before s.faults_now → ⊥) → (Rises (faults before) (faults now) → ⊥)
     → ((status ≡ 0) × Grows held faults before now text) ⊎ (status ≡ 6)
 
--- how a run ends with this status, of a source and a sink that are seen so
-pub record IsDone {S K : Type 0} (words : List (String Global)) (left : S → Option (List ℕ))
-    (source_faults : S → ℕ)
-    (source source_now : S) (held : K → Option (List ℕ)) (faults : K → ℕ) (sink sink_now : K) (status : ℕ) :
-    Type 0 where
+-- how a run of these forms ends, of a source and a sink that are seen so
+pub record IsEnded {S K : Type 0} (does : Form → Bool) (words : List (String Global))
+    (left : S → Option (List ℕ)) (source_faults : S → ℕ)
+    (source source_now : S) (held : K → Option (List ℕ)) (faults : K → ℕ) (sink sink_now : K) (status : ℕ)
+    (race : Option Closed) : Type 0 where
   -- what is due, by the words and by what was read, is told
-  pub run : IsRun words (source_tells left source_faults source source_now) held faults sink sink_now status
+  pub run : IsRun does words (source_tells left source_faults source source_now) held faults sink sink_now
+      status race
   -- nothing is read where the words are no form
-  pub unread : (IsAsked words → ⊥) → source_now ≡ source
+  pub unread : (IsAsked does words → ⊥) → source_now ≡ source
   -- a whole input is told whole
-  pub complete : IsComplete words (source_tells left source_faults source source_now) held faults sink
+  pub complete : IsComplete does words (source_tells left source_faults source source_now) held faults sink
       sink_now status

@@ -1,10 +1,12 @@
 pub mod Bytes
 pub mod Due
 pub mod Forms
+pub mod HeadsLeft
 pub mod Inputs
 pub mod Lists
 pub mod Mapped
 pub mod Prepared
+pub mod RaceStatus
 pub mod ReplayTexts
 pub mod Telling
 pub mod Texts

@@ -1,6 +1,6 @@
 //! The text of a replay: how far a capture's words were run, and the state that they leave.
 ghost use Rattle.std.specs.List.{flat_map, list_all, range_with_len};
-ghost use Rattle.std.specs.Prelude.{◌≡◌, ◌⊎◌, ℕ, ◌==◌, ◌<◌, ◌≤◌, List, length, MatchResult};
+ghost use Rattle.std.specs.Prelude.{◌≡◌, ◌⊎◌, ℕ, ◌==◌, ◌<◌, ◌≤◌, List, length, None};
 ghost use Rattle.svga.specs.Inputs.{IsReplayed, TellsInput};
 ghost use Rattle.svga.specs.Mapped.{AreMapped, mapped_page};
 ghost use Rattle.svga.specs.ReplayTexts.{pages_text, region_keys, replay_end_text, replay_status};
@@ -13,7 +13,7 @@ ghost use Rattle.svga_cmd.specs.declared.page.PageKey.TheVariants as key;
 ghost use Rattle.svga_machine.specs.Displays.{IsWholeState};
 ghost use Rattle.svga_text.specs.Passing.{Writes};
 
-use crate::ended::Ended;
+use crate::ended::status_of;
 use crate::mapped::mapped_pages;
 use std::alloc::Global;
 use svga_capture::{Capture, CaptureFault, ReplayEnd, Replayed, read_capture, replay};
@@ -24,12 +24,12 @@ use svga_text::{Line, Render, name_of_capture_cause, name_of_cause, name_of_faul
 
 /// Writes what the words of the capture in these bytes leave, or where the bytes are no capture.
 /// Where there is no memory for it nothing is written, and the status is 6.
-pub fn write_replay<K: Sink>(alloc: Global, bytes: &[u8], sink: &mut K) -> Ended
+pub fn write_replay<K: Sink>(alloc: Global, bytes: &[u8], sink: &mut K) -> u8
     requires { length bytes.now ≤ MAX_INPUT_BYTES }
-    ensures { TellsInput K.held K.faults sink.old sink.new form.Replay bytes.now result.status }
+    ensures { TellsInput K.held K.faults sink.old sink.new form.Replay bytes.now result None }
 {
     let Ok(mut render) = Render::new(alloc) else {
-        return Ended { status: 6 };
+        return 6;
     };
     match read_capture(bytes) {
         Ok(capture) => write_capture(alloc, &capture, &mut render, sink),
@@ -38,9 +38,9 @@ pub fn write_replay<K: Sink>(alloc: Global, bytes: &[u8], sink: &mut K) -> Ended
                 place,
                 cause: name_of_capture_cause(cause),
             };
-            ended(render.line(sink, &line), 3)
+            status_of(render.line(sink, &line), 3)
         }
-        Err(CaptureFault::Memory) => Ended { status: 6 },
+        Err(CaptureFault::Memory) => 6,
     }
 }
 
@@ -50,29 +50,19 @@ fn write_capture<K: Sink>(
     capture: &Capture<'_>,
     render: &mut Render,
     sink: &mut K,
-) -> Ended
-    ensures { ((result.status ≡ 6) × (sink.new ≡ sink.old))
+) -> u8
+    ensures { ((result ≡ 6) × (sink.new ≡ sink.old))
         ⊎ ((status : ℕ) × (text : List ℕ) × IsReplayed capture.now status text
-        × Tells K.held K.faults sink.old sink.new text status result.status) }
+        × Tells K.held K.faults sink.old sink.new text status result) }
 {
     let Ok(replayed) = replay(alloc, capture) else {
-        return Ended { status: 6 };
+        return 6;
     };
     let Ok(mapped) = mapped_pages(alloc, &replayed.machine) else {
-        return Ended { status: 6 };
+        return 6;
     };
     let written = write_replayed(&replayed, &mapped, render, sink);
-    ended(written, status_of(replayed.ending))
-}
-
-// How a run ends that has this status where all was written.
-fn ended(written: Result<(), WriteFault>, status: u8) -> Ended
-    ensures { MatchResult written (λ _. result.status ≡ status) (λ _. result.status ≡ 5) }
-{
-    match written {
-        Ok(()) => Ended { status },
-        Err(WriteFault) => Ended { status: 5 },
-    }
+    status_of(written, replay_status_of(replayed.ending))
 }
 
 fn write_replayed<K: Sink>(
@@ -207,7 +197,7 @@ fn write_replay_end<K: Sink>(
     render.line(sink, &line)
 }
 
-fn status_of(ending: ReplayEnd) -> u8
+fn replay_status_of(ending: ReplayEnd) -> u8
     ensures { result ≡ replay_status ending }
 {
     match ending {

@@ -2,7 +2,9 @@
 use crate::tests::ends;
 use std::alloc::{AllocError, Global};
 use std::process::Abort;
+use std::sync::Wait;
 use std::test::Fail;
+use std::thread::Threads;
 use svga_io::{CleanSource, MemSink};
 
 /// The word that stands for an unmapped place.
@@ -62,7 +64,7 @@ fn capture(alloc: Global, held: &Held<'_>) -> Result<Vec<u8>, AllocError> {
 
 /// Replays these bytes, and compares the text and the status.
 fn replays(
-    rt: &(impl Abort + AllocGlobal),
+    rt: &(impl Abort + AllocGlobal + Threads + Wait + Copy + Send + 'static),
     bytes: Vec<u8>,
     text: &str,
     status: u8,

@@ -1,5 +1,5 @@
 //! The report on an input: its commands, the last fence, and how it ends.
-ghost use Rattle.std.specs.Prelude.{◌≡◌, ◌≤◌, ℕ, List, length, IfOk};
+ghost use Rattle.std.specs.Prelude.{◌≡◌, ◌≤◌, ℕ, List, length, IfOk, None};
 ghost use Rattle.svga.specs.Inputs.{TellsInput};
 ghost use Rattle.svga.specs.Prepared.{IsPrepared};
 ghost use Rattle.svga.specs.Texts.{end_text, words_status, words_text};
@@ -8,7 +8,6 @@ ghost use Rattle.svga_cmd.specs.declared.command.Command.{Command};
 ghost use Rattle.svga_text.specs.Passing.{Writes};
 
 use crate::bytes::{ending_of, words_of};
-use crate::ended::Ended;
 use crate::listing::{Lister, list_commands};
 use std::alloc::{AllocError, Global};
 use svga_cmd::constants::{MAX_INPUT_BYTES, MAX_INPUT_WORDS};
@@ -27,17 +26,17 @@ pub struct Report {
 
 /// Writes the report on these bytes. Where there is no memory for it nothing is written, and the
 /// status is 6.
-pub fn write_report<K: Sink>(alloc: Global, bytes: &[u8], sink: &mut K) -> Ended
+pub fn write_report<K: Sink>(alloc: Global, bytes: &[u8], sink: &mut K) -> u8
     requires { length bytes.now ≤ MAX_INPUT_BYTES }
-    ensures { TellsInput K.held K.faults sink.old sink.new form.Words bytes.now result.status }
+    ensures { TellsInput K.held K.faults sink.old sink.new form.Words bytes.now result None }
 {
     let Ok(mut report) = prepare(alloc, bytes) else {
-        return Ended { status: 6 };
+        return 6;
     };
     let status = status_of(report.ending);
     match write(&mut report, sink) {
-        Ok(()) => Ended { status },
-        Err(WriteFault) => Ended { status: 5 },
+        Ok(()) => status,
+        Err(WriteFault) => 5,
     }
 }
 

@@ -1,9 +1,12 @@
 // Whole runs of the top call: what is written, and with which status.
-use crate::ended::Ended;
+use crate::ended::EndedOf;
 use crate::top::top;
 use std::alloc::{AllocError, Global};
 use std::process::Abort;
+use std::sync::Wait;
 use std::test::Fail;
+use std::thread::Threads;
+use svga_head::{HeadsOf, Mirror};
 use svga_io::{CleanSource, MemSink, MemSource, Sink, Source};
 
 fn bytes_of(alloc: Global, words: &[u32]) -> Result<Vec<u8>, AllocError> {
@@ -14,36 +17,44 @@ fn bytes_of(alloc: Global, words: &[u32]) -> Result<Vec<u8>, AllocError> {
     Ok(bytes)
 }
 
-fn run<S: Source, K: Sink>(
+fn run<R: Threads + Wait + Copy + Send + 'static, S: Source, K: Sink>(
+    rt: &R,
     alloc: Global,
     words: &[&str],
     source: &mut S,
     sink: &mut K,
-) -> Result<Ended, AllocError> {
+) -> Result<EndedOf<Mirror>, AllocError> {
     let mut owned = Vec::new(alloc);
     for word in words {
         owned.push(String::from_str(alloc, *word)?)?;
     }
-    Ok(top(alloc, &owned, source, sink))
+    Ok(top(
+        rt,
+        alloc,
+        &owned,
+        source,
+        sink,
+        HeadsOf::new(Vec::new(alloc)),
+    ))
 }
 
 /// Runs the words on this source and this sink, and compares what was written and the status.
-pub fn ends<S: Source>(
-    rt: &(impl Abort + AllocGlobal),
+pub fn ends<R: Abort + AllocGlobal + Threads + Wait + Copy + Send + 'static, S: Source>(
+    rt: &R,
     words: &[&str],
     source: &mut S,
     sink: &mut MemSink,
     text: &str,
     status: u8,
 ) -> Result<(), Fail> {
-    let ended = run(rt.alloc(), words, source, sink)?;
+    let ended = run(rt, rt.alloc(), words, source, sink)?;
     assert_eq!(rt; sink.bytes(), text.as_bytes(), "{text}");
     assert_eq!(rt; ended.status, status, "{text}");
     Ok(())
 }
 
 fn lists(
-    rt: &(impl Abort + AllocGlobal),
+    rt: &(impl Abort + AllocGlobal + Threads + Wait + Copy + Send + 'static),
     words: &[u32],
     text: &str,
     status: u8,
@@ -186,7 +197,10 @@ const REMAPS: [Row; 7] = [
 ];
 
 /// Whether each row's words are listed as the row says.
-fn list_each(rt: &(impl Abort + AllocGlobal), rows: &[Row]) -> Result<(), Fail> {
+fn list_each(
+    rt: &(impl Abort + AllocGlobal + Threads + Wait + Copy + Send + 'static),
+    rows: &[Row],
+) -> Result<(), Fail> {
     for (words, text, status) in rows {
         lists(rt, *words, *text, *status)?;
     }
@@ -248,7 +262,7 @@ fn a_source_of_single_bytes(rt: HostRuntime) -> Result<(), Fail> {
 fn words_of_no_form(rt: HostRuntime) -> Result<(), Fail> {
     let alloc = rt.alloc();
     let usage = "usage: svga words | replay | race | gen N\n";
-    let forms: [&[&str]; 4] = [&[], &["words", "words"], &["--help"], &["race"]];
+    let forms: [&[&str]; 4] = [&[], &["words", "words"], &["--help"], &["gen", "1"]];
     for words in forms {
         let mut source = CleanSource::new(Vec::new(alloc), 1);
         let mut sink = MemSink::new(alloc, 64, Vec::new(alloc))?;

@@ -9,10 +9,10 @@ returns g c =
     let r = c.in-Ok.replayed in
     let text = replay_text (replay_in r) in
     inr (
-      c.status_of.result,
+      c.replay_status_of.result,
       text,
-      replayed c.args.capture.now r c.status_of.result c.in-Ok.ensures.replay c.in-Ok.ensures.within
-          c.status_of.ensures,
-      told g.K.Sink.held g.K.Sink.faults _ _ text c.status_of.result c.ended.result.status
-          c.write_replayed-written.result c.write_replayed-written.ensures c.ended.ensures,
+      replayed c.args.capture.now r c.replay_status_of.result c.in-Ok.ensures.replay c.in-Ok.ensures.within
+          c.replay_status_of.ensures,
+      told g.K.Sink.held g.K.Sink.faults _ _ text c.replay_status_of.result c.status_of.result
+          c.write_replayed-written.result c.write_replayed-written.ensures c.status_of.ensures,
     )

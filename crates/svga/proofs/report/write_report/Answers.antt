@@ -1,4 +1,4 @@
-use Rattle.std.proofs.Common.{ℕ, List, inl, inr, refl}
+use Rattle.std.proofs.Common.{ℕ, List, None, inl, inr, refl}
 use Rattle.std.specs.Prelude.{Option}
 use Rattle.svga.specs.Bytes.{IsEndingOfBytes}
 use Rattle.svga.specs.Inputs.{IsListed, TellsInput}
@@ -13,11 +13,11 @@ use Rattle.svga.proofs.report.write_report.Goals as goal
 told : {K : Type 0} (held : K → Option (List ℕ)) (faults : K → ℕ) (before now : K) (bytes : List ℕ) (cs : List Command)
     (end : Ending) (answer : ℕ) → IsEndingOfBytes bytes cs end
     → Tells held faults before now (words_text cs end) (words_status end) answer
-    → TellsInput held faults before now Words bytes answer
+    → TellsInput held faults before now Words bytes answer None
 told held faults before now bytes cs end answer ending tells =
     let of : IsListed bytes (words_status end) (words_text cs end)
     = record { commands = cs; end = end; ending = ending; status_is = refl; text_is = refl } in
-    inr (words_status end, words_text cs end, of, tells)
+    inr (words_status end, words_text cs end, (of, refl), tells)
 
 pub returns-in-Ok-write : goal.returns-in-Ok-write
 returns-in-Ok-write g c =

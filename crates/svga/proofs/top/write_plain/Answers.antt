@@ -1,4 +1,4 @@
-use Rattle.svga.proofs.top.write_input.Goals as goal
+use Rattle.svga.proofs.top.write_plain.Goals as goal
 
 pub returns-in-Words : goal.returns-in-Words
 returns-in-Words g c = rw c.in-Words.is c.write_report.ensures
